@@ -1,0 +1,22 @@
+use borrow.Author.Needs.{needs}
+use mathlib.Core.Path.{_≡_, sym, _∙_, ap}
+use mathlib.Core.Bool.{Bool, true, false, _&&_}
+use lib.ListN.{drop}
+use Prim.Native.Nat.{_+_}
+use Rattle.std.proofs.shelf.Lists.{at-drop-more, at-drop-all}
+use Rattle.std.specs.declared.option.Option.the-variants.{Some}
+use Rattle.order.specs.Lists.{follows, rises-after, rising}
+use Rattle.order.proofs.lists.rises.Given as given
+use Rattle.order.proofs.lists.rises.Needs as need
+
+pub returns-then-not-follows : need.returns-then-not-follows
+returns-then-not-follows g c =
+    let s = at-drop-more (rises-after (g .K·Key .order) (c .loop-key .previous)) (c .args .keys .now) (c .loop-key .key-index) (c .key-item .result) (c .loop-key-test .taken) in search needs
+
+pub loop-key-again : need.loop-key-again
+loop-key-again g c =
+    let s = at-drop-more (rises-after (g .K·Key .order) (c .loop-key .previous)) (c .args .keys .now) (c .loop-key .key-index) (c .key-item .result) (c .loop-key-test .taken) in search needs
+
+pub returns : need.returns
+returns g c =
+    let s = at-drop-all (rises-after (g .K·Key .order) (c .loop-key .previous)) (c .args .keys .now) (c .loop-key .key-index) (c .loop-key-test .left) in search needs

@@ -1,0 +1,5 @@
+pub mod Addresses
+pub mod Lists
+pub mod Orders
+pub mod Ranks
+pub mod Rows
