@@ -1,0 +1,2 @@
+// Lists of names as the field engineer writes them: read, arranged and told line by line.
+pub mod text;

@@ -1,0 +1,72 @@
+// The bytes of a text as lines, words and numbers.
+ghost use mathlib.Core.Path.{_≡_};
+ghost use mathlib.Core.List.{map};
+ghost use denote.Ref.{now as bytes-of};
+ghost use Rattle.std.specs.Of.Vec.{vec-items};
+ghost use Rattle.std.specs.Vec.{made};
+ghost use Rattle.names.specs.Text.{separates, split as splitAt, with-digit, number as numberIn};
+use std::alloc::AllocError;
+use std::alloc::Global;
+
+// What parts a text.
+#[derive(Clone, Copy)]
+pub enum Separator {
+    LineFeed,
+    Blank,
+}
+
+impl Separator {
+    // Whether this byte is one: a line feed; or a blank, a tab or a carriage return.
+    pub fn parts(self, b: u8) -> bool
+        ensures { λ r. ⌜ r ≡ separates self b ⌝ }
+    {
+        match self {
+            Separator::LineFeed => b == b'\n',
+            Separator::Blank => b == b' ' || b == b'\t' || b == b'\r',
+        }
+    }
+}
+
+// What stands between the separators, in order.
+pub fn split<'a>(
+    heap: Global,
+    bytes: &'a [u8],
+    at: Separator,
+) -> Result<Vec<&'a [u8]>, AllocError>
+    ensures { λ r. ⌜ made r (λ v. map bytes-of (vec-items v) ≡ splitAt at (now (bytes .entry))) ⌝ }
+{
+    let mut pieces = Vec::new(heap);
+    let mut start = 0;
+    for (i, b) in bytes.iter().enumerate() {
+        if at.parts(*b) {
+            pieces.push(&bytes[start..i])?;
+            start = i + 1;
+        }
+    }
+    pieces.push(&bytes[start..])?;
+    Ok(pieces)
+}
+
+// A number with one more digit, if the byte is one and the number fits.
+fn push_digit(n: u32, b: u8) -> Option<u32>
+    ensures { λ r. ⌜ r ≡ with-digit n b ⌝ }
+{
+    if b < b'0' || b'9' < b {
+        return None;
+    }
+    n.checked_mul(10)?.checked_add(u32::from(b - b'0'))
+}
+
+// The number that a word of digits writes.
+pub fn number(word: &[u8]) -> Option<u32>
+    ensures { λ r. ⌜ r ≡ numberIn (now (word .entry)) ⌝ }
+{
+    if word.is_empty() {
+        return None;
+    }
+    let mut n = 0;
+    for b in word {
+        n = push_digit(n, *b)?;
+    }
+    Some(n)
+}
