@@ -1,1 +1,3 @@
+pub mod Listings
+pub mod Names
 pub mod Text

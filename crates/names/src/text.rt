@@ -4,7 +4,8 @@ ghost use mathlib.Core.List.{map};
 ghost use denote.Ref.{now as bytes-of};
 ghost use Rattle.std.specs.Of.Vec.{vec-items};
 ghost use Rattle.std.specs.Vec.{made};
-ghost use Rattle.names.specs.Text.{separates, split as splitAt, with-digit, number as numberIn};
+ghost use Rattle.std.specs.Options.{mapped};
+ghost use Rattle.names.specs.Text.{separates, split as splitAt, words as wordsOf, with-digit, number as numberIn, numbers as numbersIn};
 use std::alloc::AllocError;
 use std::alloc::Global;
 
@@ -69,4 +70,32 @@ pub fn number(word: &[u8]) -> Option<u32>
         n = push_digit(n, *b)?;
     }
     Some(n)
+}
+
+// The words of a line: what stands between its blanks, but for what is empty.
+pub fn words<'a>(heap: Global, line: &'a [u8]) -> Result<Vec<&'a [u8]>, AllocError>
+    ensures { λ r. ⌜ made r (λ v. map bytes-of (vec-items v) ≡ wordsOf (now (line .entry))) ⌝ }
+{
+    let pieces = split(heap, line, Separator::Blank)?;
+    let mut words = Vec::new(heap);
+    for piece in pieces.iter() {
+        if !piece.is_empty() {
+            words.push(*piece)?;
+        }
+    }
+    Ok(words)
+}
+
+// The numbers that these words write, if each writes one.
+pub fn numbers(heap: Global, words: &[&[u8]]) -> Result<Option<Vec<u32>>, AllocError>
+    ensures { λ r. ⌜ made r (λ o. mapped vec-items o ≡ numbersIn (map bytes-of (now (words .entry)))) ⌝ }
+{
+    let mut numbers = Vec::new(heap);
+    for word in words {
+        let Some(n) = number(word) else {
+            return Ok(None);
+        };
+        numbers.push(n)?;
+    }
+    Ok(Some(numbers))
 }
