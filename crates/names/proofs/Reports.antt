@@ -42,9 +42,9 @@ module _ {K : Type 0} (order : K → K → Order) (ks : List K) (i : ℕ) where
     name-more written p b out next whole l told is pushed =
         text-more out next l (name-lines order written (Some k) (i + 1 + 1) (drop (i + 1) ks)) (name-lines order written p (i + 1) (drop i ks)) whole pushed
         (at-drop-more (name-lines order written p (i + 1)) ks i k here
-         ∙ ap (λ j. name-line written (i + 1) (repeats order p j) j ++ name-lines order written (Some j) (i + 1 + 1) (drop (i + 1) ks)) (sym read)
-         ∙ ap (λ v. name-line written (i + 1) v k ++ name-lines order written (Some k) (i + 1 + 1) (drop (i + 1) ks)) (sym told)
-         ∙ ap (λ t. t ++ name-lines order written (Some k) (i + 1 + 1) (drop (i + 1) ks)) (sym is))
+        ∙ ap (λ j. name-line written (i + 1) (repeats order p j) j ++ name-lines order written (Some j) (i + 1 + 1) (drop (i + 1) ks)) (sym read)
+        ∙ ap (λ v. name-line written (i + 1) v k ++ name-lines order written (Some k) (i + 1 + 1) (drop (i + 1) ks)) (sym told)
+        ∙ ap (λ t. t ++ name-lines order written (Some k) (i + 1 + 1) (drop (i + 1) ks)) (sym is))
 
   pub no-name-left : (written : K → List ℕ) (p : Option K) (n : ℕ) (out : List ℕ) → length ks ≤ i → out ++ name-lines order written p n (drop i ks) ≡ out
   no-name-left written p n out past = at-drop-all (λ l. out ++ name-lines order written p n l) ks i past ∙ append-nil out

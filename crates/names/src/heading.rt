@@ -11,7 +11,7 @@ use std::alloc::Global;
 
 // What the first line with a word on it says, if there is one.
 #[derive(Clone, Copy)]
-pub enum Heading {
+pub(crate) enum Heading {
     Missing,
     Unknown,
     Numbers,
@@ -47,7 +47,7 @@ fn read_words(words: &[&[u8]]) -> Option<Heading>
 }
 
 // The heading, and the index of the line behind it.
-pub fn find_heading(heap: Global, lines: &[&[u8]]) -> Result<(Heading, usize), AllocError>
+pub(crate) fn find_heading(heap: Global, lines: &[&[u8]]) -> Result<(Heading, usize), AllocError>
     ensures { λ r. ⌜ made r (λ h. h ≡ headed 0 (map bytes-of (now (lines .entry)))) ⌝ }
 {
     for (i, line) in lines.iter().enumerate() {

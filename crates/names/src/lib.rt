@@ -1,6 +1,6 @@
 // Lists of names as the field engineer writes them: read, arranged and told line by line.
-pub mod heading;
+mod heading;
 pub mod listing;
 pub mod name;
 pub mod report;
-pub mod text;
+mod text;

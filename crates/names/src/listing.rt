@@ -29,10 +29,7 @@ pub struct Listing<K> {
 }
 
 // What one line gives. The outer error is want of memory.
-pub fn entry<K: Name>(
-    heap: Global,
-    line: &[u8],
-) -> Result<Result<Option<K>, Fault>, AllocError>
+fn entry<K: Name>(heap: Global, line: &[u8]) -> Result<Result<Option<K>, Fault>, AllocError>
     ensures { λ r. ⌜ made r (λ e. e ≡ entryOn named (now (line .entry))) ⌝ }
 {
     let words = words(heap, line)?;

@@ -64,7 +64,12 @@ fn mark(double: bool) -> &'static str
 }
 
 // The line for the key at one place, marked where it is a double.
-fn write_name<K: Name>(heap: Global, place: usize, double: bool, key: K) -> Result<String, AllocError>
+fn write_name<K: Name>(
+    heap: Global,
+    place: usize,
+    double: bool,
+    key: K,
+) -> Result<String, AllocError>
     ensures { λ r. ⌜ made r (λ s. string-bytes s ≡ name-line written place double key) ⌝ }
 {
     let name = key.write(heap)?;
@@ -140,7 +145,10 @@ fn write_summary(
 ) -> Result<String, AllocError>
     ensures { λ r. ⌜ made r (λ s. string-bytes s ≡ summed names doubles refused unreadable) ⌝ }
 {
-    format!(heap, "names {names}, doubles {doubles}, refused {refused}, unreadable {unreadable}\n")
+    format!(
+        heap,
+        "names {names}, doubles {doubles}, refused {refused}, unreadable {unreadable}\n"
+    )
 }
 
 // Faults, names and the last line, of a list that was read and arranged.
@@ -177,10 +185,16 @@ fn report_under(
 {
     match heading {
         Heading::Missing => {
-            String::from_str(heap, "The first line is missing: it says numbers or addresses.\n")
+            String::from_str(
+                heap,
+                "The first line is missing: it says numbers or addresses.\n",
+            )
         }
         Heading::Unknown => {
-            String::from_str(heap, "The first line is unknown: it says numbers or addresses.\n")
+            String::from_str(
+                heap,
+                "The first line is unknown: it says numbers or addresses.\n",
+            )
         }
         Heading::Numbers => report_names::<u32>(heap, lines, from),
         Heading::Addresses => report_names::<Row>(heap, lines, from),

@@ -11,14 +11,14 @@ use std::alloc::Global;
 
 // What parts a text.
 #[derive(Clone, Copy)]
-pub enum Separator {
+pub(crate) enum Separator {
     LineFeed,
     Blank,
 }
 
 impl Separator {
     // Whether this byte is one: a line feed; or a blank, a tab or a carriage return.
-    pub fn parts(self, b: u8) -> bool
+    pub(crate) fn parts(self, b: u8) -> bool
         ensures { λ r. ⌜ r ≡ separates self b ⌝ }
     {
         match self {
@@ -29,7 +29,7 @@ impl Separator {
 }
 
 // What stands between the separators, in order.
-pub fn split<'a>(
+pub(crate) fn split<'a>(
     heap: Global,
     bytes: &'a [u8],
     at: Separator,
@@ -59,7 +59,7 @@ fn push_digit(n: u32, b: u8) -> Option<u32>
 }
 
 // The number that a word of digits writes.
-pub fn number(word: &[u8]) -> Option<u32>
+pub(crate) fn number(word: &[u8]) -> Option<u32>
     ensures { λ r. ⌜ r ≡ numberIn (now (word .entry)) ⌝ }
 {
     if word.is_empty() {
@@ -73,7 +73,7 @@ pub fn number(word: &[u8]) -> Option<u32>
 }
 
 // The words of a line: what stands between its blanks, but for what is empty.
-pub fn words<'a>(heap: Global, line: &'a [u8]) -> Result<Vec<&'a [u8]>, AllocError>
+pub(crate) fn words<'a>(heap: Global, line: &'a [u8]) -> Result<Vec<&'a [u8]>, AllocError>
     ensures { λ r. ⌜ made r (λ v. map bytes-of (vec-items v) ≡ wordsOf (now (line .entry))) ⌝ }
 {
     let pieces = split(heap, line, Separator::Blank)?;
@@ -87,7 +87,7 @@ pub fn words<'a>(heap: Global, line: &'a [u8]) -> Result<Vec<&'a [u8]>, AllocErr
 }
 
 // The numbers that these words write, if each writes one.
-pub fn numbers(heap: Global, words: &[&[u8]]) -> Result<Option<Vec<u32>>, AllocError>
+pub(crate) fn numbers(heap: Global, words: &[&[u8]]) -> Result<Option<Vec<u32>>, AllocError>
     ensures { λ r. ⌜ made r (λ o. mapped vec-items o ≡ numbersIn (map bytes-of (now (words .entry)))) ⌝ }
 {
     let mut numbers = Vec::new(heap);

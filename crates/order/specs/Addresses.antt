@@ -29,9 +29,9 @@ exists aisle bay level = in-range 1 99 aisle && (in-range 1 999 bay && in-range 
 
 abbrev pub placed : ℕ → ℕ → ℕ → Result Row NoPlace
 placed aisle bay level = elim (exists aisle bay level) [
-    true ↦ Ok (record { aisle = aisle; bay = bay; level = level })
+  | true ↦ Ok (record { aisle = aisle; bay = bay; level = level })
   | false ↦ Err (record {})
-  ]
+]
 
 abbrev pub refusal-number : NoPlace → ℕ
 refusal-number e = 10

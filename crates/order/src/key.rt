@@ -5,7 +5,7 @@ ghost use Rattle.order.specs.declared.key.Order.{Order};
 ghost use Rattle.order.specs.declared.key.Order.the-variants.{Before, Same};
 
 // How a first key stands to a second.
-#[derive(Clone, Copy)]
+#[derive(Clone, Copy, PartialEq, Eq, Debug)]
 pub enum Order {
     Before,
     Same,

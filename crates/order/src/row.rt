@@ -5,7 +5,7 @@ use crate::key::Order;
 use crate::key::compare_numbers;
 
 // The three bare numbers of a rack address, in range or not: what memory holds of one.
-#[derive(Clone, Copy)]
+#[derive(Clone, Copy, PartialEq, Eq, Debug)]
 pub struct Row {
     pub aisle: u8,
     pub bay: u16,

@@ -13,13 +13,13 @@ loop-i-again c =
     let inv = c .loop-i .inv in
     let told = sym (c .parts .ensures) in
     elim (c .if-parts .came) [
-        then-parts·in-Continue-push w ↦
-            rw (w .start-is, w .pieces-is)
-            (omega arith, piece-ends (c .args .at) bs (c .loop-i .start) (c .loop-i .i) old (inv .1) (inv .0) (c .loop-i-test .taken) _ _ (w .in-Continue-push .ensures tt .items) (search needs) (told ∙ w .if-parts .taken))
+      | then-parts·in-Continue-push w ↦
+          rw (w .start-is, w .pieces-is)
+          (omega arith, piece-ends (c .args .at) bs (c .loop-i .start) (c .loop-i .i) old (inv .1) (inv .0) (c .loop-i-test .taken) _ _ (w .in-Continue-push .ensures tt .items) (search needs) (told ∙ w .if-parts .taken))
       | else-parts w ↦
-            rw (w .start-is, w .pieces-is)
-            (omega (arith, inv .0), piece-goes-on (c .args .at) bs (c .loop-i .start) (c .loop-i .i) old (inv .1) (inv .0) (c .loop-i-test .taken) (told ∙ w .if-parts .left))
-      ]
+          rw (w .start-is, w .pieces-is)
+          (omega (arith, inv .0), piece-goes-on (c .args .at) bs (c .loop-i .start) (c .loop-i .i) old (inv .1) (inv .0) (c .loop-i-test .taken) (told ∙ w .if-parts .left))
+    ]
 
 pub returns : need.returns
 returns c =

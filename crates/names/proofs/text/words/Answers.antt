@@ -18,9 +18,9 @@ loop-piece-again c =
     let here = c .loop-piece-test .taken in
     let told = sym (c .is-empty .ensures) in
     elim (c .if-not-is-empty .came) [
-        then-not-is-empty·in-Continue-push w ↦ rw (w .words-is) (a-word ws ps i _ here _ _ (told ∙ w .if-not-is-empty .taken) (w .in-Continue-push .ensures tt .items) refl ∙ c .loop-piece .inv)
+      | then-not-is-empty·in-Continue-push w ↦ rw (w .words-is) (a-word ws ps i _ here _ _ (told ∙ w .if-not-is-empty .taken) (w .in-Continue-push .ensures tt .items) refl ∙ c .loop-piece .inv)
       | else-not-is-empty w ↦ rw (w .words-is) (empty-piece ws ps i _ here (told ∙ w .if-not-is-empty .left) ∙ c .loop-piece .inv)
-      ]
+    ]
 
 pub returns : need.returns
 returns c =
