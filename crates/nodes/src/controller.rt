@@ -59,10 +59,10 @@ pub enum WaitAction {
 // second one, or the wait in the chain of the first.
 #[derive(Clone, Copy)]
 pub enum Lookup {
-    Job,
+    HasJob,
     First { action: WaitAction },
     Second { action: WaitAction, u: JobRef },
-    Wait { u: JobRef, v: JobRef },
+    HasWait { u: JobRef, v: JobRef },
 }
 
 // What is to be done with a pair of neighbouring nodes, once it is located and locked. `Empty` takes

@@ -1,30 +1,29 @@
 -- Find: a traversal without locks, for a lookup or for the two jobs of a wait. Assumes nothing.
 --     lookup-chain l        the chain that is traversed
 --     lookup-key c l        the key that is looked for
---     found s w             the job at the second node s of the pair, if its key is w and it is not removed
+--     found s w             the job at the second node s of a pair, if its key is w and it is not removed
 --     with-job l o          how a lookup goes on with the job that was found, or with none
---     is-gone j             whether a job that was found is removed by now
---     stands-at s v         the node s is a committed wait to v
---     has-wait u v s        the answer to has wait
---     find l at             a step of a lookup that stands on the node at
-use mathlib.Core.Bool.{Bool, true, false, not, _&&_, cond}
+--     gone j                whether a job that was found is removed by now
+--     stands-at s v         the second node s of a pair is a committed wait to v
+--     find c l at           a step of the lookup l, standing on the node at
+use mathlib.Core.Bool.{Bool, true, false, not, _&&_, _||_, cond}
 use mathlib.Core.List.{List}
 use Prim.Native.Nat.{ℕ}
 use Rattle.std.specs.declared.option.Option.{Option}
 use Rattle.std.specs.declared.option.Option.the-variants.{Some, None}
 use Rattle.order.specs.declared.key.Order.{Order}
-use Rattle.order.specs.declared.key.Order.the-variants.{Before, Same, After}
-use Rattle.nodes.specs.declared.controller.Answer.{Answer}
-use Rattle.nodes.specs.declared.controller.Answer.the-variants.{Yes, No}
 use Rattle.nodes.specs.declared.controller.Controller.{Controller}
-use Rattle.nodes.specs.declared.controller.Edit.the-variants.{AddWait, RemoveWait}
 use Rattle.nodes.specs.declared.controller.JobRef.{JobRef}
-use Rattle.nodes.specs.declared.controller.Lookup as lookups
 use Rattle.nodes.specs.declared.controller.Phase.{Phase}
+use Rattle.nodes.specs.declared.node.Node.{Node}
+use Rattle.order.specs.declared.key.Order.the-variants.{Before, Same, After}
+use Rattle.nodes.specs.declared.controller.Answer.the-variants.{Yes, No}
+use Rattle.nodes.specs.declared.controller.Edit.the-variants.{AddWait, RemoveWait}
+use Rattle.nodes.specs.declared.controller.Lookup.{Lookup}
+use Rattle.nodes.specs.declared.controller.Lookup.the-variants.{HasJob, First, Second, HasWait}
 use Rattle.nodes.specs.declared.controller.Phase.the-variants.{Find, Locate, Finished}
 use Rattle.nodes.specs.declared.controller.WaitAction.{WaitAction}
 use Rattle.nodes.specs.declared.controller.WaitAction.the-variants.{Add, Remove, Has}
-use Rattle.nodes.specs.declared.node.Node.{Node}
 use Rattle.nodes.specs.declared.node.Kind.{Kind}
 use Rattle.nodes.specs.declared.node.Kind.the-variants.{Vacant, Sentinel, Job, Wait}
 use Rattle.nodes.specs.declared.node.WaitState.{WaitState}
@@ -33,9 +32,82 @@ use Rattle.nodes.specs.declared.traverse.Chain.{Chain}
 use Rattle.nodes.specs.declared.traverse.Chain.the-variants.{Jobs, Waits}
 use Rattle.nodes.specs.declared.traverse.Traversed.the-variants.{Stand, Arrive}
 use Rattle.nodes.specs.Access.{_>>=_, node-at}
-use Rattle.nodes.specs.Chains.{traversed, waits-for}
+use Rattle.nodes.specs.Chains.{job-ref, is-removed, waits-for, traversed}
 use Rattle.rules.specs.declared.decision.Decision.{Decision}
 use Rattle.rules.specs.Write.{moves}
 
-abbrev pub Lookup : Type 0
-Lookup = lookups.Lookup
+abbrev pub lookup-chain : Lookup → Chain
+lookup-chain HasJob = Jobs
+lookup-chain (First a) = Jobs
+lookup-chain (Second a u) = Jobs
+lookup-chain (HasWait u v) = Waits
+
+abbrev pub lookup-key : {K : Type 0} → Controller K → Lookup → K
+lookup-key c HasJob = c .u
+lookup-key c (First a) = c .u
+lookup-key c (Second a u) = c .v
+lookup-key c (HasWait u v) = c .v
+
+-- the two jobs are found: the wait is looked up, or located to be changed
+abbrev pub on-wait : WaitAction → JobRef → JobRef → Phase
+on-wait Add u v = Locate (AddWait u v) (u .sentinel)
+on-wait Remove u v = Locate (RemoveWait u v) (u .sentinel)
+on-wait Has u v = Find (HasWait u v) (u .sentinel)
+
+abbrev pub with-job : Lookup → Option JobRef → Phase
+with-job l None = Finished No
+with-job HasJob (Some j) = Finished Yes
+with-job (First a) (Some u) = Find (Second a u) 0
+with-job (Second a u) (Some v) = on-wait a u v
+with-job (HasWait u v) (Some j) = Finished No
+
+-- the job, unless it is removed
+abbrev pub unremoved : ℕ → Kind → Option JobRef
+unremoved i k = cond (is-removed k) None (job-ref i k)
+
+abbrev pub is-same : Order → Bool
+is-same Before = false
+is-same Same = true
+is-same After = false
+
+abbrev pub is-committed : Kind → Bool
+is-committed Vacant = false
+is-committed Sentinel = false
+is-committed (Job g s r) = false
+is-committed (Wait g t Tentative) = false
+is-committed (Wait g t Committed) = true
+is-committed (Wait g t Removed) = false
+
+module _ {K : Type 0} where
+  abbrev pub gone : List (Node K) → JobRef → Option Bool
+  gone ns j = node-at ns (j .node) >>= λ x. job-ref (j .node) (x .kind) >>= λ _. Some (is-removed (x .kind))
+
+  abbrev pub stands-at : List (Node K) → Option ℕ → JobRef → Option Bool
+  stands-at ns None v = Some false
+  stands-at ns (Some n) v = node-at ns n >>= λ y. Some (is-committed (y .kind) && waits-for (v .node) (v .generation) (y .kind))
+
+  abbrev pub has-wait : List (Node K) → JobRef → JobRef → Option ℕ → Option Phase
+  has-wait ns u v s =
+      gone ns u >>= λ a. gone ns v >>= λ b. stands-at ns s v >>= λ t.
+      Some (Finished (cond (not a && (not b && t)) Yes No))
+
+  module _ (order : K → K → Order) where
+    abbrev pub is-key : List (Node K) → Option ℕ → K → Option Bool
+    is-key ns None w = Some false
+    is-key ns (Some n) w = node-at ns n >>= λ y. Some (is-same (order (y .key) w))
+
+    abbrev pub found : List (Node K) → Option ℕ → K → Option (Option JobRef)
+    found ns None w = Some None
+    found ns (Some n) w = node-at ns n >>= λ y. Some (cond (is-same (order (y .key) w)) (unremoved n (y .kind)) None)
+
+    -- what the arriving step finds at the second node of its pair
+    abbrev pub arrived : List (Node K) → Controller K → Lookup → Option ℕ → Option Phase
+    arrived ns c HasJob s = found ns s (c .u) >>= λ o. Some (with-job HasJob o)
+    arrived ns c (First a) s = found ns s (c .u) >>= λ o. Some (with-job (First a) o)
+    arrived ns c (Second a u) s = found ns s (c .v) >>= λ o. Some (with-job (Second a u) o)
+    arrived ns c (HasWait u v) s = has-wait ns u v s
+
+    unfoldable pub find : List (Node K) → Controller K → Lookup → ℕ → Option (Decision K)
+    find ns c l at =
+        traversed order ns (lookup-chain l) at (lookup-key c l) >>= λ t.
+        elim t [ Stand n ↦ moves (Find l n) | Arrive p ↦ arrived ns c l (p .1) >>= λ q. moves q ]

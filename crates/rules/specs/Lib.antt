@@ -1,8 +1,13 @@
+pub mod Calls
 pub mod Decide
 pub mod Explore
 pub mod Find
+pub mod Graph
 pub mod Locate
 pub mod Lock
+pub mod Machine
 pub mod Release
+pub mod Runs
 pub mod Validate
+pub mod Worked
 pub mod Write
