@@ -8,6 +8,7 @@ pub mod Lock
 pub mod Machine
 pub mod Release
 pub mod Runs
+pub mod Schedules
 pub mod Validate
 pub mod Worked
 pub mod Write
