@@ -17,7 +17,6 @@ use Rattle.nodes.specs.declared.node.Kind.{Kind}
 use Rattle.nodes.specs.declared.refusal.Damage.{Damage}
 
 infixl 1 _>>=_
-
 abbrev pub _>>=_ : {A B : Type 0} → Option A → (A → Option B) → Option B
 None >>= f = None
 Some x >>= f = f x

@@ -57,9 +57,9 @@ module _ {K : Type 0} where
 
   abbrev pub try-lock : ℕ → ℕ → List (Node K) → Result StepOutcome Damage × List (Node K)
   try-lock w i ns = elim (node-at ns i) [
-      None ↦ (Err (record {}), ns)
+    | None ↦ (Err (record {}), ns)
     | Some x ↦ cond (lockable w (x .lock)) (Ok Moved, set ns i (with-lock x (Some w))) (Ok Waiting, ns)
-    ]
+  ]
 
   -- a number that is none, or below the number of nodes
   abbrev pub there : List (Node K) → Option ℕ → Bool

@@ -54,9 +54,9 @@ module _ {K : Type 0} where
 
   abbrev pub set-up : ℕ → Memory K → Result (Unit {0}) Refusal × Memory K
   set-up first m = elim (fits m) [
-      false ↦ (Err Misfit, m)
+    | false ↦ (Err Misfit, m)
     | true ↦ elim (eqb first 0) [ true ↦ (Err BadFirst, m) | false ↦ (Ok tt, fresh first m) ]
-    ]
+  ]
 
   -- a function's answer with the four parts of the memory after it
   abbrev pub after : {R : Type 0} → R → Header → List (Node K) → List (Controller K) → List ℕ → R × Memory K

@@ -3,7 +3,7 @@ use crate::controller::Answer;
 use crate::refusal::Refusal;
 
 // What a step answers.
-#[derive(Clone, Copy, PartialEq, Eq, Debug)]
+#[derive(Clone, Copy)]
 pub enum StepOutcome {
     Moved,
     Waiting,
@@ -24,8 +24,18 @@ pub enum Call<K> {
 #[derive(Clone, Copy)]
 pub enum Outcome {
     Started,
-    Stepped { outcome: StepOutcome },
-    Collected { answer: Answer },
-    Counted { jobs: usize, waits: usize, free: usize },
-    Refused { refusal: Refusal },
+    Stepped {
+        outcome: StepOutcome,
+    },
+    Collected {
+        answer: Answer,
+    },
+    Counted {
+        jobs: usize,
+        waits: usize,
+        free: usize,
+    },
+    Refused {
+        refusal: Refusal,
+    },
 }

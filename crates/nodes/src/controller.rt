@@ -3,7 +3,7 @@ ghost use mathlib.Core.Path.{_≡_};
 ghost use Rattle.nodes.specs.Operations.{operation-of, code-of};
 
 // What an operation answers.
-#[derive(Clone, Copy, PartialEq, Eq, Debug)]
+#[derive(Clone, Copy)]
 pub enum Answer {
     Yes,
     No,
@@ -12,7 +12,7 @@ pub enum Answer {
 }
 
 // The six operations. They are asked for by the codes 1 to 6.
-#[derive(Clone, Copy, PartialEq, Eq, Debug)]
+#[derive(Clone, Copy)]
 pub enum Operation {
     AddJob,
     RemoveJob,

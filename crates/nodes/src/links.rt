@@ -72,8 +72,10 @@ pub fn link_wait<K: Copy>(
     ensures { λ r. ⌜ (r, now (nodes .exit)) ≡ written (now (nodes .entry)) (link-wait pair wait key who to (now (nodes .entry))) ⌝ }
 {
     let (first, second) = pair;
-    let (Some(before), Some(_)) = (read(nodes, usize::from(first)), read(nodes, usize::from(wait)))
-    else {
+    let (Some(before), Some(_)) = (
+        read(nodes, usize::from(first)),
+        read(nodes, usize::from(wait)),
+    ) else {
         return Err(Damage);
     };
     put(
@@ -113,7 +115,9 @@ fn to_removed(kind: Kind) -> Option<Kind>
             removed: true,
         }),
         Kind::Wait {
-            generation, target, ..
+            generation,
+            target,
+            ..
         } => Some(Kind::Wait {
             generation,
             target,
@@ -128,7 +132,9 @@ fn to_committed(kind: Kind) -> Option<Kind>
 {
     match kind {
         Kind::Wait {
-            generation, target, ..
+            generation,
+            target,
+            ..
         } => Some(Kind::Wait {
             generation,
             target,
@@ -184,8 +190,10 @@ pub fn unlink<K: Copy>(
 ) -> Result<(), Damage>
     ensures { λ r. ⌜ (r, now (nodes .exit)) ≡ written (now (nodes .entry)) (unlinked first taken number (now (nodes .entry))) ⌝ }
 {
-    let (Some(before), Some(out)) = (read(nodes, usize::from(first)), read(nodes, usize::from(taken)))
-    else {
+    let (Some(before), Some(out)) = (
+        read(nodes, usize::from(first)),
+        read(nodes, usize::from(taken)),
+    ) else {
         return Err(Damage);
     };
     if is_vacant(before.kind) || to_removed(out.kind).is_none() {

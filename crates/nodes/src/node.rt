@@ -2,7 +2,7 @@
 
 // How far a wait has come: `Tentative` while its maker still explores whether it would close a
 // circle, `Committed` once it stands, `Removed` when it is to be unlinked or has been.
-#[derive(Clone, Copy, PartialEq, Eq, Debug)]
+#[derive(Clone, Copy)]
 pub enum WaitState {
     Tentative,
     Committed,
@@ -12,7 +12,7 @@ pub enum WaitState {
 // What a node is. A sentinel heads a chain: node 0 that of the jobs, and each job's own sentinel that
 // of the waits from it. A job's generation is the ticket of the operation that added it, so a job
 // that was removed and added again is another job. A wait names its target by node and generation.
-#[derive(Clone, Copy, PartialEq, Eq, Debug)]
+#[derive(Clone, Copy)]
 pub enum Kind {
     Vacant,
     Sentinel,

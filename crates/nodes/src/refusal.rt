@@ -5,7 +5,7 @@ ghost use Rattle.nodes.specs.declared.refusal.Refusal.the-variants.{Damage as 
 use order::address::making::NoPlace as Displaced;
 
 // A node number not below the number of nodes, or a node of a kind that no rule gives there.
-#[derive(Clone, Copy, PartialEq, Eq, Debug)]
+#[derive(Clone, Copy)]
 pub struct Damage;
 
 // Why a call was refused. A refusal leaves all memory as it was.

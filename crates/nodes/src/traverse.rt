@@ -4,8 +4,8 @@ ghost use Rattle.nodes.specs.Access.{or-damage};
 ghost use Rattle.nodes.specs.Chains.{is-sentinel, in-chain, traversed};
 use crate::access::read;
 use crate::node::Kind;
-use crate::refusal::Damage;
 use crate::node::Node;
+use crate::refusal::Damage;
 use order::key::Key;
 use order::key::Order;
 

@@ -89,9 +89,9 @@ module _ {K : Type 0} where
   -- the first two checks of every call for a controller
   abbrev pub for-controller : {R : Type 0} → Memory K → ℕ → (Controller K → Result-of R K) → Result-of R K
   for-controller m w go = elim (fits m) [
-      false ↦ refused m Misfit
+    | false ↦ refused m Misfit
     | true ↦ elim (nth (m .controllers) w) [ None ↦ refused m Nobody | Some c ↦ go c ]
-    ]
+  ]
 
   abbrev pub with-phase : Controller K → Phase → Controller K
   with-phase c p = record { operation = c .operation; u = c .u; v = c .v; ticket = c .ticket; phase = p }
@@ -118,20 +118,23 @@ module _ {K : Type 0} where
   abbrev pub take-decision : Memory K → ℕ → Controller K → Decision K → Result-of StepOutcome K
   take-decision m w c Waits-for-lock = (Ok Waiting, m)
   take-decision m w c (Take e k p) = elim (applied w (m .header .«next_ticket») e (m .nodes)) [
-      None ↦ refused m Damage
-    | Some ns ↦ (Ok (told p), record {
+    | None ↦ refused m Damage
+    | Some ns ↦ (
+      Ok (told p),
+      record {
         header = m .header;
         nodes = ns;
         controllers = set (m .controllers) w (with-phase c p);
         marks = marked (length (m .nodes)) w k (m .marks);
-      })
-    ]
+      },
+    )
+  ]
 
   unfoldable pub stepped : (K → K → Order) → ℕ → Memory K → Result-of StepOutcome K
   stepped order w m = for-controller m w (λ c. elim (is-running (c .phase)) [
-      false ↦ refused m Resting
+    | false ↦ refused m Resting
     | true ↦ elim (decide order m w c (c .phase)) [ None ↦ refused m Damage | Some d ↦ take-decision m w c d ]
-    ])
+  ])
 
   -- ---- collect
 
@@ -176,6 +179,6 @@ module _ {K : Type 0} where
 
   unfoldable pub counted : Memory K → Result-of (ℕ × ℕ × ℕ) K
   counted m = elim (fits m) [
-      false ↦ refused m Misfit
+    | false ↦ refused m Misfit
     | true ↦ elim (count-all m) [ None ↦ refused m Damage | Some n ↦ (Ok n, m) ]
-    ]
+  ]

@@ -59,23 +59,23 @@ module _ {K : Type 0} where
   abbrev pub link-new-job : List (Controller K) → List (Node K) → Controller K → ℕ × Option ℕ → Option ℕ → Option (Decision K)
   link-new-job cs ns c p None = over p Full
   link-new-job cs ns c p (Some j) = elim (highest cs ns j) [
-      None ↦ over p Full
+    | None ↦ over p Full
     | Some s ↦ takes (LinkJob p j s (c .u) (c .ticket)) (Unlock p None (Finish Yes))
-    ]
+  ]
 
   -- the highest node that may be used again becomes a tentative wait, and the exploration begins at v
   abbrev pub link-new-wait : List (Controller K) → List (Node K) → Controller K → JobRef → JobRef → ℕ × Option ℕ → Option (Decision K)
   link-new-wait cs ns c u v p = elim (highest cs ns (length ns)) [
-      None ↦ over p Full
+    | None ↦ over p Full
     | Some t ↦ Some (Take (LinkWait p t (c .v) v) (Begin (v .node)) (Explore u v p t None))
-    ]
+  ]
 
   unfoldable pub remove-wait : List (Node K) → JobRef → JobRef → ℕ × Option ℕ → Option (Decision K)
   remove-wait ns u v p =
       gone ns u >>= λ a. gone ns v >>= λ b. is-wait-to ns (p .1) v >>= λ t.
       elim (a || b) [
-        true ↦ over p No
-      | false ↦ elim t [ true ↦ take-out p (p .1) (Finish Yes) | false ↦ over p Yes ]
+        | true ↦ over p No
+        | false ↦ elim t [ true ↦ take-out p (p .1) (Finish Yes) | false ↦ over p Yes ]
       ]
 
   unfoldable pub empty-one : JobRef → ℕ × Option ℕ → Option (Decision K)
@@ -111,10 +111,10 @@ module _ {K : Type 0} where
     add-wait cs ns c u v p =
         gone ns u >>= λ a. gone ns v >>= λ b. is-wait-to ns (p .1) v >>= λ t. is-key order ns (p .1) (c .v) >>= λ s.
         elim (a || b) [
-          true ↦ over p No
-        | false ↦ elim t [
-            true ↦ over p Yes
-          | false ↦ elim s [ true ↦ take-out p (p .1) (Again (AddWait u v)) | false ↦ link-new-wait cs ns c u v p ]
+          | true ↦ over p No
+          | false ↦ elim t [
+            | true ↦ over p Yes
+            | false ↦ elim s [ true ↦ take-out p (p .1) (Again (AddWait u v)) | false ↦ link-new-wait cs ns c u v p ]
           ]
         ]
 

@@ -7,18 +7,40 @@ use Rattle.rules.proofs.worked_states.Needs as need
 worked : WorkedStates
 unfolding machine
 worked = record {
-    fresh = refl; has-job-on-fresh = refl; add-job = refl; add-job-again = refl; add-wait = refl; add-wait-back = refl;
-    add-wait-to-itself = refl; add-wait-to-none = refl; remove-job = refl; two-controllers = refl;
-    lookup-holds-nodes = refl; lookup-lets-go = refl; full = refl; not-full-if-in = refl;
-  }
+  fresh = refl;
+  has-job-on-fresh = refl;
+  add-job = refl;
+  add-job-again = refl;
+  add-wait = refl;
+  add-wait-back = refl;
+  add-wait-to-itself = refl;
+  add-wait-to-none = refl;
+  remove-job = refl;
+  two-controllers = refl;
+  lookup-holds-nodes = refl;
+  lookup-lets-go = refl;
+  full = refl;
+  not-full-if-in = refl;
+}
 
 further : FurtherStates
 unfolding machine
 further = record {
-    settled-looks-again = refl; tentative-is-locked = refl; generations-differ = refl;
-    misfit = refl; bad-first = refl; nobody = refl; busy = refl; unknown = refl; worn-out = refl; resting = refl;
-    unfinished = refl; damage-in-step = refl; damage-in-count = refl; no-place = refl;
-  }
+  settled-looks-again = refl;
+  tentative-is-locked = refl;
+  generations-differ = refl;
+  misfit = refl;
+  bad-first = refl;
+  nobody = refl;
+  busy = refl;
+  unknown = refl;
+  worn-out = refl;
+  resting = refl;
+  unfinished = refl;
+  damage-in-step = refl;
+  damage-in-count = refl;
+  no-place = refl;
+}
 
 pub returns : need.returns
-returns c = record { worked = worked; further = further }
+returns c = record { number = refl; worked = worked; further = further }

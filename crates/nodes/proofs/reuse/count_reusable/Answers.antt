@@ -10,10 +10,10 @@ pub loop-n-again : need.loop-n-again
 loop-n-again g c =
     let more = counted-more (c .args .controllers .now) (c .args .nodes .now) (c .loop-n .n) (c .index-nodes-n .result) (c .loop-n-test .taken) (c .index-nodes-n .is) in
     elim (c .if-is-reusable .came) [
-        then-is-reusable w ↦
-            let one = ap (λ b. cond {A = ℕ} b 1 0) (sym (c .is-reusable .ensures) ∙ w .if-is-reusable .taken) in
-            (omega (arith, w .count-is), omega (arith, w .count-is, more, one, c .loop-n .inv .1))
+      | then-is-reusable w ↦
+          let one = ap (λ b. cond {A = ℕ} b 1 0) (sym (c .is-reusable .ensures) ∙ w .if-is-reusable .taken) in
+          (omega (arith, w .count-is), omega (arith, w .count-is, more, one, c .loop-n .inv .1))
       | else-is-reusable w ↦
-            let one = ap (λ b. cond {A = ℕ} b 1 0) (sym (c .is-reusable .ensures) ∙ w .if-is-reusable .left) in
-            (omega (arith, w .count-is), omega (arith, w .count-is, more, one, c .loop-n .inv .1))
-      ]
+          let one = ap (λ b. cond {A = ℕ} b 1 0) (sym (c .is-reusable .ensures) ∙ w .if-is-reusable .left) in
+          (omega (arith, w .count-is), omega (arith, w .count-is, more, one, c .loop-n .inv .1))
+    ]
