@@ -3,7 +3,7 @@
 --     heading-line ws     what a line of these words says, where there is a word
 --     headed n ls         what the first of the lines that has a word says, with the index behind that line,
 --                         where the first of the lines has the index n
-use mathlib.Core.Bool.{true, false, cond}
+use mathlib.Core.Bool.{cond}
 use mathlib.Core.List.{List, [], _∷_}
 use Prim.Native.Nat.{ℕ, _+_}
 use lib.Chars.{codes}

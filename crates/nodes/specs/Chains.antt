@@ -1,8 +1,9 @@
 -- Kinds of node along chains, and one step of a traversal. Assumes nothing.
---     is-vacant, is-sentinel, is-job, is-wait     what a node is
+--     is-vacant, is-sentinel     what a node is
 --     is-removed k        a job or a wait that is removed
 --     in-chain c k        a node of the chain c, behind its sentinel
 --     heads c k           a node of the chain c, or a sentinel
+--     chain-of k          the chain in which a job or a wait stands
 --     waits-for t g k     a wait to the node t and the generation g
 --     job-ref i k         a job, by node, generation and sentinel
 --     traversed c at w    what a step from the node at finds, where w is the key that is looked for
@@ -59,6 +60,12 @@ in-chain Waits (Wait g t s) = true
 
 abbrev pub heads : Chain → Kind → Bool
 heads c k = is-sentinel k || in-chain c k
+
+abbrev pub chain-of : Kind → Option Chain
+chain-of Vacant = None
+chain-of Sentinel = None
+chain-of (Job g s r) = Some Jobs
+chain-of (Wait g t s) = Some Waits
 
 abbrev pub waits-for : ℕ → ℕ → Kind → Bool
 waits-for node generation Vacant = false

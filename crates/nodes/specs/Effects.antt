@@ -11,7 +11,7 @@
 --     unlink i j n         j, which follows i, leaves the chain with the retire number n
 --     retire i n           the sentinel i leaves with the retire number n
 --     written ns o         what a function over nodes answers, and the nodes after it
-use mathlib.Core.Bool.{Bool, true, false, not, _&&_, cond}
+use mathlib.Core.Bool.{Bool, true, false, _&&_, cond}
 use mathlib.Core.List.{List}
 use Prim.Native.Nat.{ℕ}
 use lib.Dec.{eqb, ltb}
@@ -29,7 +29,7 @@ use Rattle.nodes.specs.declared.node.Kind.the-variants.{Vacant, Sentinel, Job,
 use Rattle.nodes.specs.declared.node.WaitState.the-variants.{Tentative, Committed, Removed}
 use Rattle.nodes.specs.declared.refusal.Damage.{Damage}
 use Rattle.nodes.specs.Access.{_>>=_, when, same-number, node-at, with-next, with-lock, with-kind, with-retired}
-use Rattle.nodes.specs.Chains.{is-vacant, is-sentinel}
+use Rattle.nodes.specs.Chains.{is-sentinel, heads, chain-of}
 
 abbrev pub removed-kind : Kind → Option Kind
 removed-kind Vacant = None
@@ -106,7 +106,7 @@ module _ {K : Type 0} where
   abbrev pub unlink : ℕ → ℕ → ℕ → List (Node K) → Option (List (Node K))
   unlink i j n ns =
       node-at ns i >>= λ x. node-at ns j >>= λ y.
-      when (not (is-vacant (x .kind))) (removed-kind (y .kind) >>= λ _. Some (set (set ns i (with-next x (y .next))) j (with-retired y n)))
+      chain-of (y .kind) >>= λ c. when (heads c (x .kind)) (Some (set (set ns i (with-next x (y .next))) j (with-retired y n)))
 
   abbrev pub retire : ℕ → ℕ → List (Node K) → Option (List (Node K))
   retire i n ns = node-at ns i >>= λ x. when (is-sentinel (x .kind)) (Some (set ns i (with-retired x n)))

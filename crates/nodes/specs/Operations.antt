@@ -1,7 +1,7 @@
 -- The codes of the six operations. Assumes nothing.
 --     code-of o          the code that asks for an operation
 --     operation-of c     the operation that a code asks for; none outside 1 to 6
-use Prim.Native.Nat.{ℕ, zero, suc}
+use Prim.Native.Nat.{ℕ}
 use Rattle.std.specs.declared.option.Option.{Option}
 use Rattle.std.specs.declared.option.Option.the-variants.{Some, None}
 use Rattle.nodes.specs.declared.controller.Operation.{Operation}

@@ -1,6 +1,6 @@
 // Controllers: what each is at, in cases that carry just what that phase needs.
 ghost use mathlib.Core.Path.{_≡_};
-ghost use Rattle.nodes.specs.Operations.{operation-of, code-of};
+ghost use Rattle.nodes.specs.Operations.{operation-of};
 
 // What an operation answers.
 #[derive(Clone, Copy)]
@@ -55,10 +55,10 @@ pub enum WaitAction {
     Has,
 }
 
-// What a traversal without locks looks for: the first job alone, the first job of a wait, the
-// second one, or the wait in the chain of the first.
+// What a traversal without locks is for: whether a job is in, the first job of a wait, the second
+// one, or whether the wait stands in the chain of the first.
 #[derive(Clone, Copy)]
-pub enum Lookup {
+pub enum Goal {
     HasJob,
     First { action: WaitAction },
     Second { action: WaitAction, u: JobRef },
@@ -67,15 +67,27 @@ pub enum Lookup {
 
 // What is to be done with a pair of neighbouring nodes, once it is located and locked. `Empty` takes
 // the first wait out of the chain of a removed job; `Sweep` takes the wait to a removed job out of the
-// chain of the job at `place`, whose sentinel is `chain`.
+// chain of the job at `place`, which hangs from `sentinel`.
 #[derive(Clone, Copy)]
 pub enum Edit {
     AddJob,
     RemoveJob,
-    AddWait { u: JobRef, v: JobRef },
-    RemoveWait { u: JobRef, v: JobRef },
-    Empty { job: JobRef },
-    Sweep { job: JobRef, place: u16, chain: u16 },
+    AddWait {
+        u: JobRef,
+        v: JobRef,
+    },
+    RemoveWait {
+        u: JobRef,
+        v: JobRef,
+    },
+    Empty {
+        job: JobRef,
+    },
+    Sweep {
+        job: JobRef,
+        place: u16,
+        sentinel: u16,
+    },
 }
 
 // How an operation goes on when it has unlocked its nodes.
@@ -86,13 +98,13 @@ pub enum Then {
     NextJob { job: JobRef, place: u16 },
 }
 
-// Where a controller's operation is. `at` and `place` are the node it stands on; a pair is a node and
-// the next one, if there is one.
+// Where a controller's operation is. `at` and `place` are the node it stands on, where it explores
+// none while it stands in no chain; a pair is a node and the next one, if there is one.
 #[derive(Clone, Copy)]
 pub enum Phase {
     Idle,
     Find {
-        lookup: Lookup,
+        goal: Goal,
         at: u16,
     },
     Locate {

@@ -1,6 +1,5 @@
 // What the rules write to chains. Each function looks at the nodes that it names before it writes.
 ghost use mathlib.Core.Path.{_≡_};
-ghost use Rattle.nodes.specs.Chains.{is-vacant};
 ghost use Rattle.nodes.specs.Effects.{written, link-job, link-wait, removed-kind, mark-removed, committed-kind, commit as committed, unlink as unlinked, retire as retired-with};
 use crate::access::put;
 use crate::access::read;
@@ -9,6 +8,7 @@ use crate::node::Kind;
 use crate::node::Node;
 use crate::node::WaitState;
 use crate::refusal::Damage;
+use crate::traverse::Chain;
 
 // Links a new job between a pair of neighbours, with a sentinel of its own.
 pub fn link_job<K: Copy>(
@@ -172,15 +172,6 @@ pub fn commit<K: Copy>(nodes: &mut [Node<K>], at: u16) -> Result<(), Damage>
     Ok(())
 }
 
-fn is_vacant(kind: Kind) -> bool
-    ensures { λ r. ⌜ r ≡ is-vacant kind ⌝ }
-{
-    match kind {
-        Kind::Vacant => true,
-        _ => false,
-    }
-}
-
 // Takes a job or a wait out of its chain, behind the node `first`; it retires with this number.
 pub fn unlink<K: Copy>(
     nodes: &mut [Node<K>],
@@ -196,7 +187,10 @@ pub fn unlink<K: Copy>(
     ) else {
         return Err(Damage);
     };
-    if is_vacant(before.kind) || to_removed(out.kind).is_none() {
+    let Some(chain) = Chain::of(out.kind) else {
+        return Err(Damage);
+    };
+    if !chain.heads(before.kind) {
         return Err(Damage);
     }
     let next = out.next;

@@ -26,16 +26,16 @@ pub enum Refusal {
 pub impl From<Damage> for Refusal as RefusalFromDamage {
     ghost converts = { λ _ r. r ≡ Damaged };
 
-    fn from(_e: Damage) -> Refusal {
-        Refusal::Damage
+    fn from(_damage: Damage) -> Refusal {
+        Self::Damage
     }
 }
 
 pub impl From<Displaced> for Refusal as RefusalFromNoPlace {
     ghost converts = { λ e r. r ≡ Unplaced e };
 
-    fn from(e: Displaced) -> Refusal {
-        Refusal::NoPlace(e)
+    fn from(refusal: Displaced) -> Refusal {
+        Refusal::NoPlace(refusal)
     }
 }
 

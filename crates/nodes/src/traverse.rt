@@ -1,7 +1,7 @@
 // One step of a traversal along a chain.
 ghost use mathlib.Core.Path.{_≡_};
 ghost use Rattle.nodes.specs.Access.{or-damage};
-ghost use Rattle.nodes.specs.Chains.{is-sentinel, in-chain, traversed};
+ghost use Rattle.nodes.specs.Chains.{in-chain, heads as isHead, chain-of, traversed};
 use crate::access::read;
 use crate::node::Kind;
 use crate::node::Node;
@@ -24,6 +24,28 @@ pub enum Traversed {
 }
 
 impl Chain {
+    // The chain in which a job or a wait stands.
+    pub(crate) fn of(kind: Kind) -> Option<Chain>
+        ensures { λ r. ⌜ r ≡ chain-of kind ⌝ }
+    {
+        match kind {
+            Kind::Vacant => None,
+            Kind::Sentinel => None,
+            Kind::Job { .. } => Some(Chain::Jobs),
+            Kind::Wait { .. } => Some(Chain::Waits),
+        }
+    }
+
+    // Whether a node of this kind is a sentinel, or stands in the chain.
+    pub(crate) fn heads(self, kind: Kind) -> bool
+        ensures { λ r. ⌜ r ≡ isHead self kind ⌝ }
+    {
+        match kind {
+            Kind::Sentinel => true,
+            _ => self.holds(kind),
+        }
+    }
+
     // Whether a node of this kind stands in the chain, behind its sentinel.
     fn holds(self, kind: Kind) -> bool
         ensures { λ r. ⌜ r ≡ in-chain self kind ⌝ }
@@ -33,15 +55,6 @@ impl Chain {
             (Chain::Waits, Kind::Wait { .. }) => true,
             _ => false,
         }
-    }
-}
-
-fn is_sentinel(kind: Kind) -> bool
-    ensures { λ r. ⌜ r ≡ is-sentinel kind ⌝ }
-{
-    match kind {
-        Kind::Sentinel => true,
-        _ => false,
     }
 }
 
@@ -57,7 +70,7 @@ pub fn traverse<K: Key>(
     let Some(node) = read(nodes, usize::from(at)) else {
         return Err(Damage);
     };
-    if !is_sentinel(node.kind) && !chain.holds(node.kind) {
+    if !chain.heads(node.kind) {
         return Err(Damage);
     }
     let Some(n) = node.next else {

@@ -7,7 +7,7 @@ use Prim.Native.Nat.{ℕ, _+_, _<_}
 use native.Mathlib.Omega.{arith}
 use lib.ListN.{length, getD, take}
 use Rattle.std.specs.declared.cmp.Ordering.{Ordering}
-use Rattle.std.specs.declared.cmp.Ordering.the-variants.{Less, Equal, Greater}
+use Rattle.std.specs.declared.cmp.Ordering.the-variants.{Less, Equal}
 use Rattle.std.specs.Keys.{Total}
 use Rattle.std.specs.Orderings.{isLt, reversed}
 use Rattle.std.specs.Slices.{Shuffled, Ascends}

@@ -1,14 +1,10 @@
 -- What a step decides, by the phase of its controller. None is damage. Assumes nothing.
-use mathlib.Core.Bool.{Bool, true, false, not, _&&_, _||_, cond}
-use mathlib.Core.List.{List}
 use Prim.Native.Nat.{ℕ}
 use Rattle.std.specs.declared.option.Option.{Option}
-use Rattle.std.specs.declared.option.Option.the-variants.{Some, None}
+use Rattle.std.specs.declared.option.Option.the-variants.{None}
 use Rattle.order.specs.declared.key.Order.{Order}
 use Rattle.nodes.specs.declared.controller.Controller.{Controller}
-use Rattle.nodes.specs.declared.controller.JobRef.{JobRef}
 use Rattle.nodes.specs.declared.controller.Phase.{Phase}
-use Rattle.nodes.specs.declared.node.Node.{Node}
 use Rattle.nodes.specs.declared.controller.Phase.the-variants.{Idle, Find, Locate, LockFirst, LockSecond, Validate, Explore, Unlink, Unlock, NextJob, Finished}
 use Rattle.nodes.specs.Memory.{Memory}
 use Rattle.rules.specs.declared.decision.Decision.{Decision}

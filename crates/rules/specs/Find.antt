@@ -1,12 +1,12 @@
--- Find: a traversal without locks, for a lookup or for the two jobs of a wait. Assumes nothing.
---     lookup-chain l        the chain that is traversed
---     lookup-key c l        the key that is looked for
+-- Find: a traversal without locks, for has job and has wait, and for the two jobs of a wait. Assumes nothing.
+--     goal-chain l        the chain that is traversed
+--     goal-key c l        the key that is looked for
 --     found s w             the job at the second node s of a pair, if its key is w and it is not removed
---     with-job l o          how a lookup goes on with the job that was found, or with none
+--     on-job, on-first, on-second     how it goes on with the job that was found, or with none
 --     gone j                whether a job that was found is removed by now
 --     stands-at s v         the second node s of a pair is a committed wait to v
---     find c l at           a step of the lookup l, standing on the node at
-use mathlib.Core.Bool.{Bool, true, false, not, _&&_, _||_, cond}
+--     find c l at           a step for the goal l, standing on the node at
+use mathlib.Core.Bool.{Bool, true, false, not, _&&_, cond}
 use mathlib.Core.List.{List}
 use Prim.Native.Nat.{ℕ}
 use Rattle.std.specs.declared.option.Option.{Option}
@@ -19,14 +19,13 @@ use Rattle.nodes.specs.declared.node.Node.{Node}
 use Rattle.order.specs.declared.key.Order.the-variants.{Before, Same, After}
 use Rattle.nodes.specs.declared.controller.Answer.the-variants.{Yes, No}
 use Rattle.nodes.specs.declared.controller.Edit.the-variants.{AddWait, RemoveWait}
-use Rattle.nodes.specs.declared.controller.Lookup.{Lookup}
-use Rattle.nodes.specs.declared.controller.Lookup.the-variants.{HasJob, First, Second, HasWait}
+use Rattle.nodes.specs.declared.controller.Goal.{Goal}
+use Rattle.nodes.specs.declared.controller.Goal.the-variants.{HasJob, First, Second, HasWait}
 use Rattle.nodes.specs.declared.controller.Phase.the-variants.{Find, Locate, Finished}
 use Rattle.nodes.specs.declared.controller.WaitAction.{WaitAction}
 use Rattle.nodes.specs.declared.controller.WaitAction.the-variants.{Add, Remove, Has}
 use Rattle.nodes.specs.declared.node.Kind.{Kind}
 use Rattle.nodes.specs.declared.node.Kind.the-variants.{Vacant, Sentinel, Job, Wait}
-use Rattle.nodes.specs.declared.node.WaitState.{WaitState}
 use Rattle.nodes.specs.declared.node.WaitState.the-variants.{Tentative, Committed, Removed}
 use Rattle.nodes.specs.declared.traverse.Chain.{Chain}
 use Rattle.nodes.specs.declared.traverse.Chain.the-variants.{Jobs, Waits}
@@ -36,17 +35,17 @@ use Rattle.nodes.specs.Chains.{job-ref, is-removed, waits-for, traversed}
 use Rattle.rules.specs.declared.decision.Decision.{Decision}
 use Rattle.rules.specs.Write.{moves}
 
-abbrev pub lookup-chain : Lookup → Chain
-lookup-chain HasJob = Jobs
-lookup-chain (First a) = Jobs
-lookup-chain (Second a u) = Jobs
-lookup-chain (HasWait u v) = Waits
+abbrev pub goal-chain : Goal → Chain
+goal-chain HasJob = Jobs
+goal-chain (First a) = Jobs
+goal-chain (Second a u) = Jobs
+goal-chain (HasWait u v) = Waits
 
-abbrev pub lookup-key : {K : Type 0} → Controller K → Lookup → K
-lookup-key c HasJob = c .u
-lookup-key c (First a) = c .u
-lookup-key c (Second a u) = c .v
-lookup-key c (HasWait u v) = c .v
+abbrev pub goal-key : {K : Type 0} → Controller K → Goal → K
+goal-key c HasJob = c .u
+goal-key c (First a) = c .u
+goal-key c (Second a u) = c .v
+goal-key c (HasWait u v) = c .v
 
 -- the two jobs are found: the wait is looked up, or located to be changed
 abbrev pub on-wait : WaitAction → JobRef → JobRef → Phase
@@ -54,12 +53,17 @@ on-wait Add u v = Locate (AddWait u v) (u .sentinel)
 on-wait Remove u v = Locate (RemoveWait u v) (u .sentinel)
 on-wait Has u v = Find (HasWait u v) (u .sentinel)
 
-abbrev pub with-job : Lookup → Option JobRef → Phase
-with-job l None = Finished No
-with-job HasJob (Some j) = Finished Yes
-with-job (First a) (Some u) = Find (Second a u) 0
-with-job (Second a u) (Some v) = on-wait a u v
-with-job (HasWait u v) (Some j) = Finished No
+abbrev pub on-job : Option JobRef → Phase
+on-job None = Finished No
+on-job (Some j) = Finished Yes
+
+abbrev pub on-first : WaitAction → Option JobRef → Phase
+on-first a None = Finished No
+on-first a (Some u) = Find (Second a u) 0
+
+abbrev pub on-second : WaitAction → JobRef → Option JobRef → Phase
+on-second a u None = Finished No
+on-second a u (Some v) = on-wait a u v
 
 -- the job, unless it is removed
 abbrev pub unremoved : ℕ → Kind → Option JobRef
@@ -101,13 +105,13 @@ module _ {K : Type 0} where
     found ns (Some n) w = node-at ns n >>= λ y. Some (cond (is-same (order (y .key) w)) (unremoved n (y .kind)) None)
 
     -- what the arriving step finds at the second node of its pair
-    abbrev pub arrived : List (Node K) → Controller K → Lookup → Option ℕ → Option Phase
-    arrived ns c HasJob s = found ns s (c .u) >>= λ o. Some (with-job HasJob o)
-    arrived ns c (First a) s = found ns s (c .u) >>= λ o. Some (with-job (First a) o)
-    arrived ns c (Second a u) s = found ns s (c .v) >>= λ o. Some (with-job (Second a u) o)
+    abbrev pub arrived : List (Node K) → Controller K → Goal → Option ℕ → Option Phase
+    arrived ns c HasJob s = found ns s (c .u) >>= λ o. Some (on-job o)
+    arrived ns c (First a) s = found ns s (c .u) >>= λ o. Some (on-first a o)
+    arrived ns c (Second a u) s = found ns s (c .v) >>= λ o. Some (on-second a u o)
     arrived ns c (HasWait u v) s = has-wait ns u v s
 
-    unfoldable pub find : List (Node K) → Controller K → Lookup → ℕ → Option (Decision K)
+    unfoldable pub find : List (Node K) → Controller K → Goal → ℕ → Option (Decision K)
     find ns c l at =
-        traversed order ns (lookup-chain l) at (lookup-key c l) >>= λ t.
+        traversed order ns (goal-chain l) at (goal-key c l) >>= λ t.
         elim t [ Stand n ↦ moves (Find l n) | Arrive p ↦ arrived ns c l (p .1) >>= λ q. moves q ]

@@ -4,7 +4,6 @@
 --     home e              the sentinel at which the traversal begins, and begins again
 --     locate c e at       a step of the edit e, standing on the node at
 --     next-job j at       the step from one job to the next, while the waits to the job j are swept up
-use mathlib.Core.Bool.{Bool, true, false, not, _&&_, _||_, cond}
 use mathlib.Core.List.{List}
 use Prim.Native.Nat.{ℕ}
 use Rattle.std.specs.declared.option.Option.{Option}
@@ -12,7 +11,6 @@ use Rattle.std.specs.declared.option.Option.the-variants.{Some, None}
 use Rattle.order.specs.declared.key.Order.{Order}
 use Rattle.nodes.specs.declared.controller.Controller.{Controller}
 use Rattle.nodes.specs.declared.controller.JobRef.{JobRef}
-use Rattle.nodes.specs.declared.controller.Phase.{Phase}
 use Rattle.nodes.specs.declared.node.Node.{Node}
 use Rattle.nodes.specs.declared.controller.Answer.the-variants.{Yes}
 use Rattle.nodes.specs.declared.controller.Edit.{Edit}
@@ -22,7 +20,7 @@ use Rattle.nodes.specs.declared.traverse.Chain.{Chain}
 use Rattle.nodes.specs.declared.traverse.Chain.the-variants.{Jobs, Waits}
 use Rattle.nodes.specs.declared.traverse.Traversed.the-variants.{Stand, Arrive}
 use Rattle.nodes.specs.Access.{_>>=_, when, node-at}
-use Rattle.nodes.specs.Chains.{is-sentinel, heads, job-ref, traversed}
+use Rattle.nodes.specs.Chains.{is-sentinel, in-chain, heads, job-ref, traversed}
 use Rattle.rules.specs.declared.decision.Decision.{Decision}
 use Rattle.rules.specs.declared.decision.Effect.the-variants.{Retire}
 use Rattle.rules.specs.Write.{moves, takes}
@@ -53,12 +51,12 @@ home (Sweep j at s) = s
 
 module _ {K : Type 0} where
   -- the first wait of a removed job, if there is one; else its sentinel retires
-  abbrev pub first-wait : JobRef → ℕ → Option ℕ → Option (Decision K)
-  first-wait j at None = takes (Retire at) (NextJob j 0)
-  first-wait j at (Some n) = moves (LockFirst (Empty j) (at, Some n))
+  abbrev pub first-wait : List (Node K) → JobRef → ℕ → Option ℕ → Option (Decision K)
+  first-wait ns j at None = takes (Retire at) (NextJob j 0)
+  first-wait ns j at (Some n) = node-at ns n >>= λ y. when (in-chain Waits (y .kind)) (moves (LockFirst (Empty j) (at, Some n)))
 
   abbrev pub locate-first : List (Node K) → JobRef → ℕ → Option (Decision K)
-  locate-first ns j at = node-at ns at >>= λ x. when (is-sentinel (x .kind)) (first-wait j at (x .next))
+  locate-first ns j at = node-at ns at >>= λ x. when (is-sentinel (x .kind)) (first-wait ns j at (x .next))
 
   -- the job that follows, if there is one; else the operation is over
   abbrev pub onto-job : List (Node K) → JobRef → Option ℕ → Option (Decision K)

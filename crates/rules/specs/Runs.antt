@@ -3,7 +3,6 @@
 --     run cs m            the outcome and the memory after each call of a list
 --     last-of m ps        the memory after the last call
 use mathlib.Core.List.{List, [], _∷_}
-use Prim.Native.Nat.{ℕ}
 use Rattle.std.specs.declared.result.Result.{Result}
 use Rattle.std.specs.declared.result.Result.the-variants.{Ok, Err}
 use Rattle.order.specs.declared.key.Order.{Order}
@@ -11,8 +10,6 @@ use Rattle.nodes.specs.declared.call.Call.{Call}
 use Rattle.nodes.specs.declared.call.Call.the-variants.{Start, Step, Collect, Count}
 use Rattle.nodes.specs.declared.call.Outcome.{Outcome}
 use Rattle.nodes.specs.declared.call.Outcome.the-variants.{Started, Stepped, Collected, Counted, Refused}
-use Rattle.nodes.specs.declared.call.StepOutcome.{StepOutcome}
-use Rattle.nodes.specs.declared.controller.Answer.{Answer}
 use Rattle.nodes.specs.declared.refusal.Refusal.{Refusal}
 use Rattle.nodes.specs.Memory.{Memory}
 use Rattle.rules.specs.Calls.{started, stepped, collected, counted}

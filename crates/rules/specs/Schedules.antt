@@ -4,7 +4,6 @@
 --     answers m            the answers of controllers 0 and 1, and the count after both
 --     says r               the number of the refusal that a call gave
 use mathlib.Core.Path.{_≡_}
-use mathlib.Core.List.{List, [], _∷_}
 use Prim.Native.Nat.{ℕ, zero, suc}
 use lib.ListN.{replicate, set}
 use Rattle.std.specs.Results.{okPart}
@@ -15,18 +14,17 @@ use Rattle.std.specs.declared.result.Result.the-variants.{Ok, Err}
 use Rattle.order.specs.declared.address.making.NoPlace.{NoPlace as Displaced}
 use Rattle.order.specs.Addresses.{placed}
 use Rattle.order.specs.Orders.{numbered}
-use Rattle.nodes.specs.declared.call.StepOutcome.{StepOutcome}
 use Rattle.nodes.specs.declared.call.StepOutcome.the-variants.{Waiting}
-use Rattle.nodes.specs.declared.controller.Answer.{Answer}
 use Rattle.nodes.specs.declared.controller.Answer.the-variants.{Yes, No}
 use Rattle.nodes.specs.declared.controller.Operation.the-variants.{AddJob, AddWait}
+use Rattle.nodes.specs.declared.node.Kind.the-variants.{Sentinel}
 use Rattle.nodes.specs.declared.refusal.Refusal.{Refusal}
 use Rattle.nodes.specs.declared.refusal.Refusal.the-variants.{NoPlace}
 use Rattle.nodes.specs.Access.{_>>=_}
 use Rattle.nodes.specs.Memory.{Memory, memory, set-up}
 use Rattle.nodes.specs.Refusals.{refusal-number}
 use Rattle.rules.specs.Calls.{started, stepped, collected, counted}
-use Rattle.rules.specs.Worked.{board, blank-node, blank-controller, ok, does, then, finish, counts, both-ended, fresh8, jobs57, wait57}
+use Rattle.rules.specs.Worked.{board, vacant-node, idle-controller, ok, does, then, finish, counts, both-ended, fresh8, jobs57}
 
 abbrev pub steps : ℕ → ℕ → Memory ℕ → Option (Memory ℕ)
 steps zero w m = Some m
@@ -74,16 +72,16 @@ refusal-of (Err e) = Some (refusal-number (NoPlace e))
 
 -- a board whose node 0 leads to a node that is not there
 abbrev pub broken : Memory ℕ
-broken = memory (fresh8 .header) (set (fresh8 .nodes) 0 (record { key = 0; kind = (elim (fresh8 .nodes) [ [] ↦ blank-node .kind | n ∷ _ ↦ n .kind ]); next = Some 9; lock = None; retired = None })) (fresh8 .controllers) (fresh8 .marks)
+broken = memory (fresh8 .header) (set (fresh8 .nodes) 0 (record { key = 0; kind = Sentinel; next = Some 9; lock = None; retired = None })) (fresh8 .controllers) (fresh8 .marks)
 
 abbrev pub unfit : Memory ℕ
-unfit = memory (fresh8 .header) (replicate 8 blank-node) (replicate 2 blank-controller) (replicate 15 0)
+unfit = memory (fresh8 .header) (replicate 8 vacant-node) (replicate 2 idle-controller) (replicate 15 0)
 
 abbrev pub one-started : Option (Memory ℕ)
 one-started = starts 0 3 5 0 (board 8 2 4294967294)
 
 pub record FurtherStates : Type 0 where
-  pub settled-looks-again : both-ended removed-while-exploring ≡ Some ((No, Yes), (1, 0, 5))
+  pub commit-looks-again : both-ended removed-while-exploring ≡ Some ((No, Yes), (1, 0, 5))
   pub tentative-is-locked : (behind-tentative >>= λ m. okPart (stepped numbered 1 m .0)) ≡ Some Waiting
   pub generations-differ : (added-again >>= counts) ≡ Some (2, 1, 6)
   pub misfit : says (started 0 1 5 0 unfit) ≡ Some 1

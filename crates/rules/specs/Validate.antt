@@ -5,7 +5,7 @@
 --     add-job, remove-job, add-wait, remove-wait, empty-one, sweep-one      the edits, on a pair that is valid
 --     apply c e p            the edit e on the pair p
 --     validate c e p         the step
-use mathlib.Core.Bool.{Bool, true, false, not, _&&_, _||_, cond}
+use mathlib.Core.Bool.{Bool, true, false, not, _&&_, _||_}
 use mathlib.Core.List.{List}
 use Prim.Native.Nat.{ℕ}
 use Rattle.std.specs.declared.option.Option.{Option}
@@ -13,9 +13,7 @@ use Rattle.std.specs.declared.option.Option.the-variants.{Some, None}
 use Rattle.order.specs.declared.key.Order.{Order}
 use Rattle.nodes.specs.declared.controller.Controller.{Controller}
 use Rattle.nodes.specs.declared.controller.JobRef.{JobRef}
-use Rattle.nodes.specs.declared.controller.Phase.{Phase}
 use Rattle.nodes.specs.declared.node.Node.{Node}
-use Prim.Native.Nat.{_+_}
 use lib.ListN.{length}
 use Rattle.nodes.specs.declared.controller.Answer.{Answer}
 use Rattle.nodes.specs.declared.controller.Answer.the-variants.{Yes, No, Full}
@@ -24,10 +22,9 @@ use Rattle.nodes.specs.declared.controller.Edit.the-variants.{AddJob, RemoveJob
 use Rattle.nodes.specs.declared.controller.Phase.the-variants.{Locate, Explore, Unlink, Unlock}
 use Rattle.nodes.specs.declared.controller.Then.{Then}
 use Rattle.nodes.specs.declared.controller.Then.the-variants.{Finish, Again, NextJob}
-use Rattle.nodes.specs.declared.node.Kind.{Kind}
 use Rattle.nodes.specs.declared.traverse.Chain.{Chain}
 use Rattle.nodes.specs.Access.{_>>=_, when, same-number, node-at}
-use Rattle.nodes.specs.Chains.{in-chain, heads, is-removed, waits-for, job-ref}
+use Rattle.nodes.specs.Chains.{is-sentinel, in-chain, heads, is-removed, waits-for, job-ref}
 use Rattle.nodes.specs.Reuse.{highest}
 use Rattle.rules.specs.declared.decision.Decision.{Decision}
 use Rattle.rules.specs.declared.decision.Decision.the-variants.{Take}
@@ -126,7 +123,11 @@ module _ {K : Type 0} where
     apply cs ns c (Empty j) p = empty-one j p
     apply cs ns c (Sweep j at s) p = sweep-one ns j at p
 
+    -- both are unlocked, and the pair is located anew from the sentinel of its chain
+    abbrev pub again : List (Node K) → Edit → ℕ × Option ℕ → Option (Decision K)
+    again ns e p = node-at ns (home e) >>= λ x. when (is-sentinel (x .kind)) (takes (effects.the-variants.Unlock p None) (Locate e (home e)))
+
     unfoldable pub validate : List (Controller K) → List (Node K) → Controller K → Edit → ℕ × Option ℕ → Option (Decision K)
     validate cs ns c e p =
         valid ns (edit-chain e) p >>= λ t.
-        elim t [ true ↦ apply cs ns c e p | false ↦ takes (effects.the-variants.Unlock p None) (Locate e (home e)) ]
+        elim t [ true ↦ apply cs ns c e p | false ↦ again ns e p ]

@@ -8,23 +8,20 @@
 --     in-turn f m         controllers 0 and 1 step in turn until both have finished, at most f rounds
 use mathlib.Core.Path.{_≡_}
 use mathlib.Core.Bool.{Bool, true, false, _||_}
-use mathlib.Core.List.{List, [], _∷_}
-use Prim.Native.Nat.{ℕ, zero, suc, _*_, _+_}
+use Prim.Native.Nat.{ℕ, zero, suc, _*_}
 use lib.ListN.{replicate}
 use Rattle.std.specs.Finite.{nth}
 use Rattle.std.specs.Results.{okPart}
 use Rattle.std.specs.declared.option.Option.{Option}
 use Rattle.std.specs.declared.option.Option.the-variants.{Some, None}
 use Rattle.std.specs.declared.result.Result.{Result}
-use Rattle.std.specs.declared.result.Result.the-variants.{Ok, Err}
 use Rattle.order.specs.Orders.{numbered}
-use Rattle.nodes.specs.declared.call.StepOutcome.{StepOutcome}
 use Rattle.nodes.specs.declared.call.StepOutcome.the-variants.{Moved, Waiting, Finished}
 use Rattle.nodes.specs.declared.controller.Answer.{Answer}
 use Rattle.nodes.specs.declared.controller.Answer.the-variants.{Yes, No, Circle, Full}
 use Rattle.nodes.specs.declared.controller.Controller.{Controller}
 use Rattle.nodes.specs.declared.controller.Operation.{Operation}
-use Rattle.nodes.specs.declared.controller.Operation.the-variants.{AddJob, RemoveJob, HasJob, AddWait, RemoveWait, HasWait}
+use Rattle.nodes.specs.declared.controller.Operation.the-variants.{AddJob, RemoveJob, HasJob, AddWait}
 use Rattle.nodes.specs.declared.controller.Phase.the-variants.{Idle}
 use Rattle.nodes.specs.declared.node.Node.{Node}
 use Rattle.nodes.specs.declared.node.Kind.the-variants.{Vacant}
@@ -35,14 +32,14 @@ use Rattle.nodes.specs.Operations.{code-of}
 use Rattle.nodes.specs.Reuse.{is-running}
 use Rattle.rules.specs.Calls.{started, stepped, collected, counted}
 
-abbrev pub blank-node : Node ℕ
-blank-node = record { key = 0; kind = Vacant; next = None; lock = None; retired = None }
+abbrev pub vacant-node : Node ℕ
+vacant-node = record { key = 0; kind = Vacant; next = None; lock = None; retired = None }
 
-abbrev pub blank-controller : Controller ℕ
-blank-controller = record { operation = None; u = 0; v = 0; ticket = 0; phase = Idle }
+abbrev pub idle-controller : Controller ℕ
+idle-controller = record { operation = None; u = 0; v = 0; ticket = 0; phase = Idle }
 
 abbrev pub board : ℕ → ℕ → ℕ → Memory ℕ
-board n c first = set-up first (memory (record { «next_ticket» = 0 }) (replicate n blank-node) (replicate c blank-controller) (replicate (c * n) 0)) .1
+board n c first = set-up first (memory (record { «next_ticket» = 0 }) (replicate n vacant-node) (replicate c idle-controller) (replicate (c * n) 0)) .1
 
 -- the memory after a call that was not refused
 abbrev pub ok : {R : Type 0} → Result R Refusal × Memory ℕ → Option (R × Memory ℕ)
@@ -127,8 +124,8 @@ held =
     jobs57 >>= λ d. ok (started 0 3 7 0 (d .after)) >>= λ s. ok (stepped numbered 0 (s .1)) >>= λ t.
     then (does (t .1) 1 RemoveJob 5 0) 1 RemoveJob 7 0 >>= λ e. Some (e .after)
 
-abbrev pub let-go : Option (Answer × (ℕ × ℕ × ℕ))
-let-go = held >>= λ m. finish 1 m 0 0 >>= λ f. ok (collected 0 (f .1)) >>= λ c. counts (f .1) >>= λ n. Some (c .0, n)
+abbrev pub released : Option (Answer × (ℕ × ℕ × ℕ))
+released = held >>= λ m. finish 1 m 0 0 >>= λ f. ok (collected 0 (f .1)) >>= λ c. counts (f .1) >>= λ n. Some (c .0, n)
 
 abbrev pub four : Option Done
 four = does (board 4 2 1) 0 AddJob 5 0
@@ -145,6 +142,6 @@ pub record WorkedStates : Type 0 where
   pub remove-job : ended (then missing59 0 RemoveJob 7 0) ≡ Some (Yes, (1, 0, 5))
   pub two-controllers : both-ended two-waits ≡ Some ((Circle, Circle), (2, 0, 3))
   pub lookup-holds-nodes : (held >>= λ m. counts m) ≡ Some (0, 0, 3)
-  pub lookup-lets-go : let-go ≡ Some (No, (0, 0, 7))
+  pub lookup-releases : released ≡ Some (No, (0, 0, 7))
   pub full : ended (then four 0 AddJob 6 0) ≡ Some (Full, (1, 0, 1))
   pub not-full-if-in : ended (then four 0 AddJob 5 0) ≡ Some (Yes, (1, 0, 1))

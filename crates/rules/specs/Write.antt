@@ -6,9 +6,9 @@
 --     own n w ms           the marks of controller w
 --     lowest-frontier ms   the lowest number with mark 1
 --     marked n w k ms      the marks after the marking k of controller w
-use mathlib.Core.Bool.{Bool, true, false}
+use mathlib.Core.Bool.{true, false}
 use mathlib.Core.List.{List, [], _∷_, _++_}
-use Prim.Native.Nat.{ℕ, zero, suc, _+_, _*_}
+use Prim.Native.Nat.{ℕ, suc, _+_, _*_}
 use lib.Dec.{eqb, ltb}
 use lib.ListN.{set, take, drop, replicate}
 use Rattle.std.specs.Finite.{nth}

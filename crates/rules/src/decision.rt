@@ -50,10 +50,10 @@ pub enum Marking {
     Set { node: u16, mark: u8 },
 }
 
-// A step waits for a lock, or writes and goes on to a phase.
+// A step is blocked by a lock that another controller holds, or writes and goes on to a phase.
 #[derive(Clone, Copy)]
 pub enum Decision<K> {
-    Wait,
+    Blocked,
     Take {
         effect: Effect<K>,
         marking: Marking,

@@ -18,7 +18,7 @@ worked = record {
   remove-job = refl;
   two-controllers = refl;
   lookup-holds-nodes = refl;
-  lookup-lets-go = refl;
+  lookup-releases = refl;
   full = refl;
   not-full-if-in = refl;
 }
@@ -26,7 +26,7 @@ worked = record {
 further : FurtherStates
 unfolding machine
 further = record {
-  settled-looks-again = refl;
+  commit-looks-again = refl;
   tentative-is-locked = refl;
   generations-differ = refl;
   misfit = refl;

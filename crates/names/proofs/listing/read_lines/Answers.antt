@@ -1,5 +1,4 @@
-use mathlib.Core.Path.{_≡_, sym, ap, _∙_}
-use Rattle.std.specs.Of.Vec.{vec-items}
+use mathlib.Core.Path.{sym, ap, _∙_}
 use Rattle.names.proofs.Listings.{names-from, faults-from, names-more, faults-more, names-all, faults-all}
 use Rattle.names.proofs.listing.read_lines.Needs as need
 

@@ -1,8 +1,7 @@
 use mathlib.Core.Path.{_≡_, sym, ap, subst, _∙_}
-use mathlib.Core.List.{List, map}
-use Prim.Native.Nat.{ℕ, _+_}
+use mathlib.Core.List.{map}
+use Prim.Native.Nat.{_+_}
 use denote.Ref.{now}
-use lib.ListN.{drop}
 use Rattle.std.proofs.shelf.Lists.{drop-map}
 use Rattle.std.proofs.shelf.Results.{made-weaker}
 use Rattle.std.specs.Of.String.{string-bytes}

@@ -5,7 +5,7 @@ use lib.Chars.{codes}
 use Rattle.std.proofs.shelf.Results.{made-weaker}
 use Rattle.std.specs.Of.String.{string-bytes}
 use Rattle.std.specs.Written.{decimal}
-use Rattle.names.specs.Reports.{mark, name-line}
+use Rattle.names.specs.Reports.{mark}
 use Rattle.names.proofs.report.write_name.Needs as need
 
 pub returns : need.returns

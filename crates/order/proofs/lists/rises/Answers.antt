@@ -1,12 +1,6 @@
 use borrow.Author.Needs.{needs}
-use mathlib.Core.Path.{_≡_, sym, _∙_, ap}
-use mathlib.Core.Bool.{Bool, true, false, _&&_}
-use lib.ListN.{drop}
-use Prim.Native.Nat.{_+_}
 use Rattle.std.proofs.shelf.Lists.{at-drop-more, at-drop-all}
-use Rattle.std.specs.declared.option.Option.the-variants.{Some}
-use Rattle.order.specs.Lists.{follows, rises-after, rising}
-use Rattle.order.proofs.lists.rises.Given as given
+use Rattle.order.specs.Lists.{rises-after}
 use Rattle.order.proofs.lists.rises.Needs as need
 
 pub returns-then-not-follows : need.returns-then-not-follows

@@ -1,0 +1,7 @@
+mod Assembly
+mod Boards
+mod Events
+mod Graphs
+mod Ledgers
+mod Lists
+mod Views

@@ -1,0 +1,5 @@
+pub mod Assembling
+pub mod Core
+pub mod History
+pub mod Ledger
+pub mod Readings
