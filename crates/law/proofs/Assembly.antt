@@ -318,6 +318,6 @@ assembled K r first calls n =
         let le′ : m .0 ≤ q .0 = m .2 in
         rw (sym e) (m .0, m .1, omega arith, m .3)
 
-    behind : (o : Op K) (j : ℕ) → j ≤ n → Ends r o j → r .handing j (o .by) ≡ Some Circle → (o .request .u ≡ o .request .v → ⊥) → Behind r (o .by) (o .start) j
+    behind : (o : Op K) (j : ℕ) → j ≤ n → Ends r o j → r .handing j (o .by) ≡ Some Circle → (o .request .u ≡ o .request .v → ⊥) → Behind r (o .request) (o .by) (o .start) j
     behind o zero le x g ne = absurd (none-at-0 r (o .by) o (x .runs))
     behind o (suc k) le x g ne = calls k .behind o x g ne

@@ -303,7 +303,7 @@ module _ {K : Type 0} (order : K → K → Order) (m : Memory K) (cs : List (Cal
 -- ---- fresh boards
 
 module _ {K : Type 0} where
-  fresh-graph : (ns : List (Node K)) → Same (graph-of (fresh-nodes ns)) empty
+  pub fresh-graph : (ns : List (Node K)) → Same (graph-of (fresh-nodes ns)) empty
   fresh-graph [] = record { job = λ k. (λ x. x .1, λ x. absurd x); wait = λ a b. (λ x. x .wait, λ x. absurd x) }
   fresh-graph (n ∷ ns) = record { job = λ k. (λ x. x .1, λ x. absurd x); wait = λ a b. (λ x. x .wait, λ x. absurd x) }
 

@@ -35,10 +35,10 @@ module _ {K : Type 0} (r : Run K) where
       let le : d .1 .0 ≤ n = p .to in
       inr (still-not n o (d .0) f, (d .1 .0, record { from = p .from; to = omega arith; right = p .right; still = p .still }))
 
-  behind-more : (c s n : ℕ) → Behind r c s n → Behind r c s (suc n)
-  behind-more c s n l =
+  behind-more : (q : Request K) (c s n : ℕ) → Behind r q c s n → Behind r q c s (suc n)
+  behind-more q c s n l =
       let le : l .call ≤ n = l .to in
-      record { u = l .u; v = l .v; call = l .call; from = l .from; to = omega arith; found = l .found; row = go (l .v) (l .u) (l .row) }
+      record { u = l .u; v = l .v; call = l .call; from = l .from; to = omega arith; found = l .found; key-u = l .key-u; key-v = l .key-v; row = go (l .v) (l .u) (l .row) }
     where
       seen : (a b : JobRef) → Seen r s n a b → Seen r s (suc n) a b
       seen a b w = let le : w .0 ≤ n = w .2 in (w .0, w .1, omega arith, w .3)
@@ -61,14 +61,14 @@ module _ {K : Type 0} (r : Run K) where
   Status n o rest = ⊥
   Status n o (seek t) = (o .request ≡ t) × (Changed r n o → ⊥)
   Status n o (bound t) = (o .request ≡ t) × Changed r n o
-  Status n o (owed t a) = (o .request ≡ t) × Due r n o a × (a ≡ Circle → (t .u ≡ t .v → ⊥) → Behind r (o .by) (o .start) n)
+  Status n o (owed t a) = (o .request ≡ t) × Due r n o a × (a ≡ Circle → (t .u ≡ t .v → ⊥) → Behind r t (o .by) (o .start) n)
   Status n o (done t a) = ⊥
 
   status-more : (n : ℕ) (o : Op K) (s : Stage K) → (Steps r o (suc n) → ⊥) → Status n o s → Status (suc n) o s
   status-more n o rest f w = w
   status-more n o (seek t) f w = (w .0, still-not n o (w .1) (λ x. absurd (f x)))
   status-more n o (bound t) f w = (w .0, changed-more r n o (w .1))
-  status-more n o (owed t a) f w = (w .0, due-more n o a (λ x. absurd (f x)) (w .1), λ p q. behind-more (o .by) (o .start) n (w .2 p q))
+  status-more n o (owed t a) f w = (w .0, due-more n o a (λ x. absurd (f x)) (w .1), λ p q. behind-more t (o .by) (o .start) n (w .2 p q))
   status-more n o (done t a) f w = w
 
   since-is : (n c : ℕ) (o : Op K) → latest r c n ≡ Some o → since r n c ≡ o .start
@@ -81,13 +81,13 @@ module _ {K : Type 0} (r : Run K) where
       let from : since r n c ≤ p .point = p .from in (
         w .0,
         inr (still-not n o (w .1) (λ _. u), (p .point, record { from = omega arith; to = p .to; right = rw (w .0) (p .right); still = rw (w .0) (p .still) })),
-        λ q ne. subst (λ (d : ℕ). Behind r d (o .start) (suc n)) (sym (latest-began r c n o e .0)) (rw same at (p .circle q ne)),
+        λ q ne. subst (λ (d : ℕ). Behind r t d (o .start) (suc n)) (sym (latest-began r c n o e .0)) (rw same at (p .circle q ne)),
       )
   went n c o e step s s′ (binds p) w = (w .0, (n, omega arith, step, p .differs))
   went n c o e step s s′ (sets p) w = (w .0, inl ((n, omega arith, step, p .differs), refl), λ q. absurd (let z : _≡_ {A = ℕ} 0 1 = cc in omega arith))
   went n c o e step s s′ (goes-on u) w = (w .0, changed-more r n o (w .1))
   went n c o e step s s′ (ends-yes u) w = (w .0, inl (changed-more r n o (w .1), refl), λ q. absurd (let z : _≡_ {A = ℕ} 0 1 = cc in omega arith))
-  went n c o e step s s′ (owes {t = t} {a = a} u) w = (w .0, due-more n o a (λ _. u) (w .1), λ p q. behind-more (o .by) (o .start) n (w .2 p q))
+  went n c o e step s s′ (owes {t = t} {a = a} u) w = (w .0, due-more n o a (λ _. u) (w .1), λ p q. behind-more t (o .by) (o .start) n (w .2 p q))
 
   turned : (n c : ℕ) (o : Op K) → Steps r o (suc n) → (s s′ : Stage K) → Went r n c s s′ → Status n o s → Same (r .graph n) (r .graph (suc n)) ⊎ ((o : Op K) × Changes r n o)
   turned n c o step s s′ (seeks u) w = inl u
@@ -211,7 +211,7 @@ module _ {K : Type 0} (r : Run K) where
           now : (t : Request K) (a : Answer) → s′ ≡ owed t a → Status (suc n) o (owed t a)
           now t a q = rw q at (went n c o e step s s′ w was)
 
-          circle : (p : Op K) → Ends r p (suc n) → r .handing (suc n) (p .by) ≡ Some Circle → (p .request .u ≡ p .request .v → ⊥) → Behind r (p .by) (p .start) (suc n)
+          circle : (p : Op K) → Ends r p (suc n) → r .handing (suc n) (p .by) ≡ Some Circle → (p .request .u ≡ p .request .v → ⊥) → Behind r (p .request) (p .by) (p .start) (suc n)
           circle p t g ne =
               let x = ends p t in
               let k = x .3 in
@@ -219,7 +219,7 @@ module _ {K : Type 0} (r : Run K) where
               let y = now (x .0) (x .1) (x .2) in
               let same : o ≡ p = entries-of p t in
               let request : x .0 ≡ p .request = sym (y .0) ∙ ap (λ (z : Op K). z .request) same in
-              subst (λ (z : Op K). Behind r (z .by) (z .start) (suc n)) same (y .2 a (subst (λ (z : Request K). z .u ≡ z .v → ⊥) (sym request) ne))
+              subst (λ (z : Op K). Behind r (p .request) (z .by) (z .start) (suc n)) same (subst (λ (z : Request K). Behind r z (o .by) (o .start) (suc n)) request (y .2 a (subst (λ (z : Request K). z .u ≡ z .v → ⊥) (sym request) ne)))
 
     -- the operation of a controller that takes a step
     stepping : (n c : ℕ) (o : Op K) → latest r c n ≡ Some o → latest r c (suc n) ≡ latest r c n →

@@ -1,7 +1,9 @@
 mod Assembly
+mod Bites
 mod Boards
 mod Events
 mod Graphs
 mod Ledgers
 mod Lists
+mod Schedules
 mod Views

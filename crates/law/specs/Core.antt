@@ -38,7 +38,7 @@ module _ {K : Type 0} (r : Run K) where
     pub turn : Same (r .graph n) (r .graph (suc n)) ⊎ ((o : Op K) × Changes n o)
     pub ends : (o : Op K) → Ends r o (suc n) → (a : Answer) × (r .handing (suc n) (o .by) ≡ Some a) × Due (suc n) o a
     pub hands : (o : Op K) (a : Answer) → HandsOver r o a (suc n) → (j : ℕ) × (j ≤ n) × Ends r o j × (r .handing j (o .by) ≡ Some a)
-    pub behind : (o : Op K) → Ends r o (suc n) → r .handing (suc n) (o .by) ≡ Some Circle → (o .request .u ≡ o .request .v → ⊥) → Behind r (o .by) (o .start) (suc n)
+    pub behind : (o : Op K) → Ends r o (suc n) → r .handing (suc n) (o .by) ≡ Some Circle → (o .request .u ≡ o .request .v → ⊥) → Behind r (o .request) (o .by) (o .start) (suc n)
 
 abbrev pub Assembly : (K : Type 0) → Type 1
 Assembly K = (r : Run K) → Same (r .graph 0) empty → ((n : ℕ) → Call r n) → (n : ℕ) → Linearizes r n

@@ -110,12 +110,14 @@ pub data Event (K : Type 0) : Type 0 where
   -- a refusal, or count
   other : Event K
 
--- after call number i: the graph; which pairs of jobs, by node and generation, have a wait that stands or is tentative; which two
--- jobs the operation of a controller has found; how many nodes are free; and what collect would hand over at a controller
+-- after call number i: the graph; which pairs of jobs, by node and generation, have a wait that stands or is tentative; which job is in
+-- the graph under which key; which two jobs the operation of a controller has found; how many nodes are free; and what collect would hand
+-- over at a controller
 pub record Run (K : Type 0) : Type 1 where
   pub event : ℕ → Event K
   pub graph : ℕ → Graph K
   pub present : ℕ → JobRef → JobRef → Type 0
+  pub keyed : ℕ → JobRef → K → Type 0
   pub found : ℕ → ℕ → JobRef → JobRef → Type 0
   pub free : ℕ → ℕ
   pub handing : ℕ → ℕ → Option Answer
@@ -219,16 +221,18 @@ module _ {K : Type 0} (r : Run K) where
   abbrev pub Seen : ℕ → ℕ → JobRef → JobRef → Type 0
   Seen s j a b = (i : ℕ) × (s ≤ i) × (i ≤ j) × r .present i a b
 
-  -- waits seen from s to j lead from the v to the u that controller c has found in that time
-  pub record Behind (c s j : ℕ) : Type 0 where
+  -- waits seen from s to j lead from the v to the u that controller c has found in that time, jobs of the graph under the two keys asked for
+  pub record Behind (q : Request K) (c s j : ℕ) : Type 0 where
     pub u : JobRef
     pub v : JobRef
     pub call : ℕ
     pub from : s ≤ call
     pub to : call ≤ j
     pub found : r .found call c u v
+    pub key-u : r .keyed call u (q .u)
+    pub key-v : r .keyed call v (q .v)
     pub row : Leads (Seen s j) v u
 
   pub record Linearizes (n : ℕ) : Type 0 where
     pub history : (h : List (Entry K)) × History n h
-    pub behind : (o : Op K) (j : ℕ) → j ≤ n → Ends o j → r .handing j (o .by) ≡ Some Circle → (o .request .u ≡ o .request .v → ⊥) → Behind (o .by) (o .start) j
+    pub behind : (o : Op K) (j : ℕ) → j ≤ n → Ends o j → r .handing j (o .by) ≡ Some Circle → (o .request .u ≡ o .request .v → ⊥) → Behind (o .request) (o .by) (o .start) j

@@ -35,7 +35,7 @@ module _ {K : Type 0} (r : Run K) where
     pub to : point ≤ suc n
     pub right : Right (r .graph point) (r .free point) t a
     pub still : Same (r .graph point) (answered (r .graph point) t a)
-    pub circle : a ≡ Circle → (t .u ≡ t .v → ⊥) → Behind r c (since n c) (suc n)
+    pub circle : a ≡ Circle → (t .u ≡ t .v → ⊥) → Behind r t c (since n c) (suc n)
 
   -- call suc n makes the change of yes, where yes is right
   pub record Sets (n : ℕ) (t : Request K) : Type 0 where

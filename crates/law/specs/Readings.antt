@@ -4,6 +4,7 @@
 --     outcome-at m cs i      what call number i + 1 gives
 --     event-of c o           what a call did, by what it gave
 --     graph-of ns            the jobs and waits of the graph, by their keys
+--     KeyedIn ns j k         the job j is in the graph, under the key k
 --     present-in ns a b      a wait from a to b stands or is tentative
 --     explores m w u v       controller w explores from the v to the u that it found
 --     stage-at m w           how far the operation of controller w is
@@ -88,6 +89,9 @@ module _ {K : Type 0} where
   event-of Count o = other
 
   -- ---- the graph
+
+  abbrev pub KeyedIn : List (Node K) → JobRef → K → Type 0
+  KeyedIn ns j k = In j (graph-jobs ns) × (key-at ns (j .node) ≡ Some k)
 
   abbrev pub JobIn : List (Node K) → K → Type 0
   JobIn ns k = (j : JobRef) × In j (graph-jobs ns) × (key-at ns (j .node) ≡ Some k)
@@ -177,6 +181,7 @@ module _ {K : Type 0} where
       event = event-at m cs;
       graph = λ i. graph-of (memory-at m cs i .nodes);
       present = λ i. present-in (memory-at m cs i .nodes);
+      keyed = λ i. KeyedIn (memory-at m cs i .nodes);
       found = λ i. Explores (memory-at m cs i);
       free = λ i. length (free-nodes (memory-at m cs i));
       handing = λ i w. okPart (calls.collected w (memory-at m cs i) .0);

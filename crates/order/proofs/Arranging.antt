@@ -18,7 +18,7 @@ use Rattle.std.proofs.shelf.Sums.{sumBy-cons}
 use Rattle.order.specs.declared.key.Order.{Order}
 use Rattle.order.specs.declared.key.Order.the-variants.{Before, Same, After}
 use Rattle.order.specs.declared.ranked.Ranked.{Ranked}
-use Rattle.order.specs.Orders.{turned, Lawful}
+use Rattle.order.specs.Orders.{turned, OrderLaws}
 use Rattle.order.specs.Ranks.{ordering, key-of}
 use Rattle.order.specs.Lists.{one-if-same, times, Arranged}
 
@@ -53,7 +53,7 @@ turned-reversed After = refl
 not-less : (o : Order) → isLt (ordering o) ≡ false → o ≡ Before → ⊥
 not-less o e b = true≢false (sym (ap (λ p. isLt (ordering p)) b) ∙ e)
 
-module _ {K : Type 0} {order : K → K → Order} (lawful : Lawful order) where
+module _ {K : Type 0} {order : K → K → Order} (lawful : OrderLaws order) where
   -- the order of a kind is one that the library's sort can use
   abbrev pub total : Total (λ (x y : Ranked K) (r : Ordering). r ≡ ordering (order (x .key) (y .key)))
   total = record {

@@ -2,7 +2,7 @@
 --     turned o        the order of the same two keys, the other way round
 --     numbered a b    the smaller number is before the greater
 --     lexical o p     o, or p where o tells nothing apart
---     Lawful order    the laws of a kind of key, as its trait states them
+--     OrderLaws order    the laws of a kind of key, as its trait states them
 use mathlib.Core.Path.{_≡_}
 use mathlib.Core.Bool.{true, false}
 use Prim.Native.Nat.{ℕ}
@@ -23,7 +23,7 @@ lexical Before p = Before
 lexical Same p = p
 lexical After p = After
 
-pub record Lawful {K : Type 0} (order : K → K → Order) : Type 0 where
+pub record OrderLaws {K : Type 0} (order : K → K → Order) : Type 0 where
   pub itself : (x : K) → order x x ≡ Same
   pub equal : (x y : K) → order x y ≡ Same → x ≡ y
   pub turns : (x y : K) → order y x ≡ turned (order x y)

@@ -2,13 +2,13 @@ use mathlib.Core.Path.{_∙_, ap}
 use mathlib.Core.List.{map}
 use Rattle.std.proofs.shelf.Results.{made-at-ok, made-weaker}
 use Rattle.std.specs.Of.Vec.{vec-items}
-use Rattle.order.specs.Orders.{Lawful}
+use Rattle.order.specs.Orders.{OrderLaws}
 use Rattle.order.specs.Ranks.{key-of}
 use Rattle.order.proofs.Arranging.{total, arranged}
 use Rattle.order.proofs.lists.arrange.Given as given
 use Rattle.order.proofs.lists.arrange.Needs as need
 
-laws : (g : given.Over) → Lawful (g .K·Key .order)
+laws : (g : given.Over) → OrderLaws (g .K·Key .order)
 laws g = let met = g .K·Key·met in record { itself = met .itself; equal = met .equal; turns = met .turns; carries = met .carries }
 
 pub returns : need.returns
