@@ -1,4 +1,6 @@
 // The law over runs: its statement, and the half of its history that does not depend on the board's rules.
+#![tactic(auto)]
+
 ghost use Rattle.std.specs.Prelude.{◌≡◌};
 ghost use Rattle.law.specs.Assembling.{HistoryFromMoves};
 ghost use Rattle.law.specs.Bites.{Bites};
@@ -11,9 +13,9 @@ use order::key::{Key, Order};
 // history refutes two wrong runs and is met by an honest one and by the empty list; and the history of the
 // worked schedule of two controllers is right.
 pub fn history_assembles<K: Key>(first: K, second: K) -> Order
-    ensures value { result ≡ order first second }
-    ensures history { HistoryFromMoves order }
-    ensures bites { Bites order }
+    ensures value { result ≡ K.order first second }
+    ensures history { HistoryFromMoves K.order }
+    ensures bites { Bites K.order }
     ensures schedule { ScheduleExplained }
 {
     first.compare(second)

@@ -1,4 +1,6 @@
 // Reads a list of names from standard input, and prints it in the order that the board will use.
+#![tactic(auto)]
+
 use names::report::report;
 use std::io::Read;
 

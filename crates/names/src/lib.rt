@@ -1,4 +1,6 @@
 // Lists of names as the field engineer writes them: read, arranged and told line by line.
+#![tactic(auto)]
+
 mod heading;
 pub mod listing;
 pub mod name;

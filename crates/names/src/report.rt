@@ -13,7 +13,7 @@ use std::alloc::{AllocError, Global};
 
 // Whether a key is the one in front of it once more.
 fn repeats<K: Key>(previous: Option<K>, key: K) -> bool
-    ensures { result ≡ repeats_key order previous key }
+    ensures { result ≡ repeats_key K.order previous key }
 {
     match previous {
         None => false,
@@ -91,7 +91,7 @@ fn push_names<K: Name>(out: &mut String, heap: Global, keys: &[K]) -> Result<(),
 
 // How many keys repeat the one in front.
 fn count_doubles<K: Key>(keys: &[K]) -> usize
-    ensures { result ≡ doubles_in order Nothing keys.now }
+    ensures { result ≡ doubles_in K.order Nothing keys.now }
 {
     let mut n = 0;
     let mut previous = None;

@@ -1,4 +1,6 @@
 // The board's memory, which the caller lends, and small functions over its slices.
+#![tactic(auto)]
+
 pub mod access;
 pub mod call;
 pub mod controller;

@@ -64,7 +64,7 @@ pub fn traverse<K: Key>(
     at: u16,
     wanted: K,
 ) -> Result<Traversed, Damage>
-    ensures { result ≡ or_damage (traversed order nodes.now chain at wanted) }
+    ensures { result ≡ or_damage (traversed K.order nodes.now chain at wanted) }
 {
     let Some(node) = read(nodes, usize::from(at)) else {
         return Err(Damage);

@@ -1,16 +1,14 @@
 -- Keys in the wrapper that the library sorts: wrapping and unwrapping them one by one, and what the
 -- library's sort gives of the keys.
-use Rattle.std.proofs.Common.{◌≡◌, ℕ, ◌+◌, ◌<◌, true, false, List, [], ◌∷◌, ◌++◌, map, length, get_or, take, sum_by, Ordering, Less, Equal, sym, refl, ap, ◌∙◌, true≢false, arith}
-use Rattle.std.specs.Cmp.{IsTotalOrder}
-use Rattle.std.specs.Ordering.{is_lt, ordering_reverse}
-use Rattle.std.specs.List.Sorted.{IsPermutation, IsSortedWithin}
+use Rattle.std.proofs.Common.{◌≡◌, ℕ, ◌+◌, ◌<◌, false, List, [], ◌∷◌, ◌++◌, map, length, get_or, take, sum_by, sym, refl, ap, ◌∙◌, true≢false, arith}
+use Rattle.std.specs.Ordering.{is_lt}
+use Rattle.std.specs.List.Sorted.{IsPermutation, IsSorted}
 use Rattle.std.proofs.lemmas.List.{map_push, map_more, take_more, get_or-map, length-map}
-use Rattle.std.proofs.lemmas.List.Sorted.{sum_by-IsPermutation, length_permutation}
+use Rattle.std.proofs.lemmas.List.Sorted.{sum_by-IsPermutation}
 use Rattle.std.proofs.lemmas.List.Sums.{sum_by-cons}
 use Rattle.order.specs.declared.key.Order.{Order}
-use Rattle.order.specs.declared.key.Order.TheVariants.{Before, Same, After}
+use Rattle.order.specs.declared.key.Order.TheVariants.{Before}
 use Rattle.order.specs.declared.ranked.Ranked.{Ranked}
-use Rattle.order.specs.Orders.{turned, OrderLaws}
 use Rattle.order.specs.Ranks.{ordering, key_of}
 use Rattle.order.specs.Lists.{one_if_same, times, Arranged}
 
@@ -27,34 +25,8 @@ module _ {K : Type 0} where
 
 -- ---- the order in the library's words
 
-pub is_less : (o : Order) → ordering o ≡ Less → o ≡ Before
-is_less Before e = refl
-is_less Same e = cc
-is_less After e = cc
-
-pub is_equal : (o : Order) → ordering o ≡ Equal → o ≡ Same
-is_equal Before e = cc
-is_equal Same e = refl
-is_equal After e = cc
-
-pub turned_reversed : (o : Order) → ordering (turned o) ≡ ordering_reverse (ordering o)
-turned_reversed Before = refl
-turned_reversed Same = refl
-turned_reversed After = refl
-
 not_less : (o : Order) → is_lt (ordering o) ≡ false → o ≡ Before → ⊥
 not_less o e b = true≢false (sym (ap (λ p. is_lt (ordering p)) b) ∙ e)
-
-module _ {K : Type 0} {order : K → K → Order} (lawful : OrderLaws order) where
-  -- the order of a kind is one that the library's sort can use
-  abbrev pub total : IsTotalOrder (λ (x y : Ranked K) (r : Ordering). r ≡ ordering (order x.key y.key))
-  total = record {
-    cmp = λ x y. ordering (order x.key y.key);
-    says = λ x y r h. h;
-    flip = λ x y. ap ordering (lawful.turns y.key x.key) ∙ turned_reversed (order y.key x.key);
-    trans = λ x y z p q. ap ordering (lawful.carries x.key y.key z.key (is_less _ p) (is_less _ q));
-    alike = λ x y z p. ap (λ k. ordering (order k z.key)) (lawful.equal x.key y.key (is_equal _ p));
-  }
 
 -- ---- what a sort gives
 
@@ -63,8 +35,8 @@ module _ {K : Type 0} (order : K → K → Order) where
   times_keys k [] = refl
   times_keys k (r ∷ rs) = ap (λ n. one_if_same (order k (key_of r)) + n) (times_keys k rs) ∙ sym (sum_by-cons _ r rs)
 
-  pub arranged : (keys ls : List K) (rs ss : List (Ranked K)) (n : ℕ) → n ≡ length rs → map key_of rs ≡ keys → ls ≡ map key_of ss → IsPermutation rs ss → IsSortedWithin (λ x y. is_lt (ordering (order x.key y.key))) ss 0 n → Arranged order keys ls
-  arranged keys ls rs ss n whole before after shuffled ascends = record { often = often; climbs = climbs }
+  pub arranged : (keys ls : List K) (rs ss : List (Ranked K)) → map key_of rs ≡ keys → ls ≡ map key_of ss → IsPermutation rs ss → IsSorted (λ x y. ordering (order x.key y.key)) ss → Arranged order keys ls
+  arranged keys ls rs ss before after shuffled ascends = record { often = often; climbs = climbs }
     where
       often : (k : K) → times order k ls ≡ times order k keys
       often k = ap (times order k) after ∙ times_keys k ss ∙ sum_by-IsPermutation _ rs ss shuffled ∙ sym (times_keys k rs) ∙ ap (times order k) before
@@ -72,7 +44,6 @@ module _ {K : Type 0} (order : K → K → Order) where
       climbs : (i : ℕ) (d : K) → i + 1 < length ls → order (get_or ls (i + 1) d) (get_or ls i d) ≡ Before → ⊥
       climbs i d lt =
           let long = ap length after ∙ length-map ss key_of in
-          let same = length_permutation rs ss shuffled in
           let e : Ranked K = record { key = d } in
           let up = ascends i e (omega arith) (omega arith) in
           let here = ap (λ l. get_or l i d) after ∙ get_or-map key_of ss i e d (omega arith) in

@@ -9,7 +9,7 @@ use std::alloc::{AllocError, Global};
 
 // Whether a key is after the one in front of it, where there is one.
 fn follows<K: Key>(previous: Option<K>, key: K) -> bool
-    ensures { result ≡ follows_from order previous key }
+    ensures { result ≡ follows_from K.order previous key }
 {
     match previous {
         None => true,
@@ -23,7 +23,7 @@ fn follows<K: Key>(previous: Option<K>, key: K) -> bool
 
 // Whether each key is before the next.
 pub fn rises<K: Key>(keys: &[K]) -> bool
-    ensures { result ≡ rising order keys.now }
+    ensures { result ≡ rising K.order keys.now }
 {
     let mut previous = None;
     for key in keys {
@@ -57,9 +57,9 @@ fn from_ranked<K: Key>(heap: Global, ranked: &[Ranked<K>]) -> Result<Vec<K>, All
 
 // The same keys, each as often, none before its predecessor.
 pub fn arrange<K: Key>(heap: Global, keys: &[K]) -> Result<Vec<K>, AllocError>
-    ensures { IfOk result (λ v. Arranged order keys.now v.items) }
+    ensures { IfOk result (λ v. Arranged K.order keys.now v.items) }
 {
     let mut ranked = to_ranked(heap, keys)?;
-    ranked.sort();
+    ranked.sort()?;
     from_ranked(heap, &ranked)
 }

@@ -1,7 +1,7 @@
 // The library sorts what is `Ord`. A key in this wrapper is, by its kind's order.
 ghost use Rattle.std.specs.Prelude.{◌≡◌, Some, refl};
 ghost use Rattle.std.specs.Ordering.{is_eq};
-ghost use Rattle.order.specs.Ranks.{ordering};
+ghost use Rattle.order.specs.Ranks.{ordering, total};
 ghost use Rattle.std.specs.Cmp.Rules.{comparing};
 ghost use Rattle.std.proofs.Common.{rules};
 ghost use Rattle.std.specs.Cmp as Keys;
@@ -18,7 +18,7 @@ pub(crate) struct Ranked<K> {
 
 impl<K: Key> Ranked<K> {
     fn rank(&self, other: &Self) -> Ordering
-        ensures { result ≡ ordering (order self.now.key other.now.key) }
+        ensures { result ≡ ordering (K.order self.now.key other.now.key) }
     {
         match self.key.compare(other.key) {
             Order::Before => Ordering::Less,
@@ -45,7 +45,7 @@ impl<K: Key> Eq for Ranked<K> {
 impl<K: Key> PartialOrd for Ranked<K> {
     ghost partial_cmp = { λ x y. Some (ordering (K.Key.order x.key y.key)) };
 
-    ghost laws = { partial_order_from_agreeing_total (λ x y. ordering (K.Key.order x.key y.key)) (Prim.search (comparing, rules)) (λ _ _. refl) (Prim.search (comparing, rules)) };
+    ghost laws = { partial_order_from_agreeing_total (λ x y. ordering (K.Key.order x.key y.key)) (total (record { itself = K.Key.itself; equal = K.Key.equal; turns = K.Key.turns; carries = K.Key.carries })) (λ _ _. refl) (Prim.search (comparing, rules)) };
 
     fn partial_cmp(&self, other: &Self) -> Option<Ordering> {
         Some(self.rank(other))
@@ -55,7 +55,7 @@ impl<K: Key> PartialOrd for Ranked<K> {
 impl<K: Key> Ord for Ranked<K> {
     ghost cmp = { λ x y. ordering (K.Key.order x.key y.key) };
 
-    ghost total = { Prim.search (comparing, rules) };
+    ghost total = { total (record { itself = K.Key.itself; equal = K.Key.equal; turns = K.Key.turns; carries = K.Key.carries }) };
 
     ghost matches_partial_cmp = { Prim.search (comparing, rules) };
 

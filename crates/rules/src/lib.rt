@@ -1,4 +1,6 @@
 // The board's rules as definitions (in specs/), the types of a decision, and the worked states.
+#![tactic(auto)]
+
 ghost use Rattle.std.specs.Prelude.{◌≡◌};
 ghost use Rattle.rules.specs.Schedules.{FurtherStates};
 ghost use Rattle.rules.specs.Worked.{WorkedStates};

@@ -1,5 +1,7 @@
 // What the law's proof stands on and no rule of the board enters: chains, reachability, ways, counts, lists as
 // memory, and keys along chains. The lemmas are in proofs/; the central ones stand on a contract here.
+#![tactic(auto)]
+
 ghost use Rattle.std.specs.Prelude.{◌≡◌};
 ghost use Rattle.theory.specs.Theory.{ChainFacts, ReachFacts, WayFacts, CountFacts, FieldFacts, KeyFacts, Examples};
 
@@ -8,13 +10,13 @@ use order::key::{Key, Order};
 // How two keys of a kind stand to each other. The value only carries the contract, which adds the central facts
 // of this crate: for this kind of key, for elements of any type `A`, and for fields of any type `B`.
 pub fn theory_holds<K: Key, A, B>(first: K, second: K) -> Order
-    ensures value { result ≡ order first second }
+    ensures value { result ≡ K.order first second }
     ensures chains { ChainFacts }
     ensures reachability { ReachFacts }
     ensures ways { WayFacts A }
     ensures counts { CountFacts }
     ensures fields { FieldFacts A B }
-    ensures keys { KeyFacts order A }
+    ensures keys { KeyFacts K.order A }
     ensures examples { Examples }
 {
     facts::<K, A, B>(first);
@@ -28,6 +30,6 @@ fn facts<K: Key, A, B>(_kind: K)
     ensures ways { WayFacts A }
     ensures counts { CountFacts }
     ensures fields { FieldFacts A B }
-    ensures keys { KeyFacts order A }
+    ensures keys { KeyFacts K.order A }
     ensures examples { Examples }
 {}

@@ -6,12 +6,12 @@ use Rattle.names.proofs.heading.find_heading.Goals as goal
 
 pub returns-in-Some : goal.returns-in-Some
 returns-in-Some c =
-    let told = c.in-Some.ensures ∙ ap (λ l. heading_line (map (λ x. x.now) l)) c.deref.ensures.value ∙ ap heading_line c.in-ok-words.ensures in
+    let told = c.in-Some.ensures ∙ ap (λ l. heading_line (map (λ x. x.now) l)) c.deref.ensures.value ∙ ap heading_line c.in_ok-words.ensures in
     sym (line_read c.args.lines.now c.loop-i.i _ (Some c.in-Some.heading) c.loop-i-test.true told) ∙ c.loop-i.invariant
 
 pub loop-i-preserved : goal.loop-i-preserved
 loop-i-preserved c =
-    let told = c.in-default.ensures ∙ ap (λ l. heading_line (map (λ x. x.now) l)) c.deref.ensures.value ∙ ap heading_line c.in-ok-words.ensures in
+    let told = c.in_default.ensures ∙ ap (λ l. heading_line (map (λ x. x.now) l)) c.deref.ensures.value ∙ ap heading_line c.in_ok-words.ensures in
     sym (line_read c.args.lines.now c.loop-i.i _ None c.loop-i-test.true told) ∙ c.loop-i.invariant
 
 pub returns : goal.returns

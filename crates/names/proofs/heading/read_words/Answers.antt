@@ -7,7 +7,7 @@ returns-in-empty c = let n : length c.args.words.now ≡ 0 = search rules in sym
 
 pub returns-in-len1 : goal.returns-in-len1
 returns-in-len1 c =
-    let n : length c.args.words.now ≡ 1 = search rules in ap Some c.read-word.ensures ∙ sym (one_word c.args.words.now _ n)
+    let n : length c.args.words.now ≡ 1 = search rules in ap Some c.read_word.ensures ∙ sym (one_word c.args.words.now _ n)
 
-pub returns-in-default : goal.returns-in-default
-returns-in-default c = let n : 2 ≤ length c.args.words.now = search rules in sym (more_words c.args.words.now n)
+pub returns-in_default : goal.returns-in_default
+returns-in_default c = let n : 2 ≤ length c.args.words.now = search rules in sym (more_words c.args.words.now n)

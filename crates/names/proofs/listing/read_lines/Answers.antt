@@ -15,8 +15,8 @@ loop-i-preserved g c =
     let i = c.loop-i.i in
     let here = c.loop-i-test.true in
     let inv = c.loop-i.invariant in
-    let told = c.in-ok-entry.ensures in
-    let noted = c.in-ok-note.ensures in
+    let told = c.in_ok-entry.ensures in
+    let noted = c.in_ok-note.ensures in
     (names_more named ls i _ here _ told _ _ noted.names ∙ inv.0, faults_more named ls i _ here _ told _ _ noted.faults ∙ inv.1)
 
 pub returns : goal.returns

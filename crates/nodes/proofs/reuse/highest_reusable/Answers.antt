@@ -1,11 +1,11 @@
 use Rattle.std.proofs.Common.{◌≡◌, suc, ◌-◌, arith, rules}
 use Rattle.nodes.proofs.reuse.highest_reusable.Goals as goal
 
-pub returns-then-is-reusable : goal.returns-then-is-reusable
-returns-then-is-reusable g c = let e : c.loop-n.n ≡ suc (c.loop-n.n - 1) = omega arith in search rules
+pub returns-then-is_reusable : goal.returns-then-is_reusable
+returns-then-is_reusable g c = let e : c.loop-n.n ≡ suc (c.loop-n.n - 1) = omega arith in search rules
 
-pub loop-n-preserved-else-is-reusable : goal.loop-n-preserved-else-is-reusable
-loop-n-preserved-else-is-reusable g c = let e : c.loop-n.n ≡ suc (c.loop-n.n - 1) = omega arith in search rules
+pub loop-n-preserved-else-is_reusable : goal.loop-n-preserved-else-is_reusable
+loop-n-preserved-else-is_reusable g c = let e : c.loop-n.n ≡ suc (c.loop-n.n - 1) = omega arith in search rules
 
 pub loop-n-preserved : goal.loop-n-preserved
 loop-n-preserved g c = let e : c.loop-n.n ≡ suc (c.loop-n.n - 1) = omega arith in search rules
