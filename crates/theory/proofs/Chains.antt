@@ -1,7 +1,7 @@
 -- Chains as lists: the list is unique and has no number twice; what a write to one next number leaves of it; what linking a
 -- number behind another and unlinking one make of it; and that what is kept stays closed under next.
 use Rattle.std.proofs.Common.{◌≡◌, ℕ, ◌<◌, Bool, true, ◌⊎◌, List, [], ◌∷◌, length, Some, None, Option, sym, refl, ap, ◌∙◌, subst, inl, inr, arith}
-use Rattle.std.specs.List.{AllByRecursion as All}
+use Rattle.std.specs.List.{AllByRecursion}
 use Rattle.std.proofs.lemmas.Bool.{cases_eq}
 use Rattle.theory.specs.Chains.{Linked, AllKept, Closed, OnlyAt, Links, Unlinks}
 use Rattle.theory.specs.Lists.{In, Distinct, spliced, without}
@@ -68,7 +68,7 @@ module _ (next : ℕ → Option ℕ) where
 
 -- ---- framing
 
-pub linked_same : (next next' : ℕ → Option ℕ) (o : Option ℕ) (l : List ℕ) → All (λ i. next' i ≡ next i) l → Linked next o l → Linked next' o l
+pub linked_same : (next next' : ℕ → Option ℕ) (o : Option ℕ) (l : List ℕ) → AllByRecursion (λ i. next' i ≡ next i) l → Linked next o l → Linked next' o l
 linked_same next next' o [] e h = h
 linked_same next next' o (i ∷ l) e h = (h.0, rw e.0 (linked_same next next' (next i) l e.1 h.1))
 

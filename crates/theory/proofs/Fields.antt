@@ -1,14 +1,13 @@
 -- Lists as memory: one field of a list's elements, and its value after a write and after any list of writes: at the written places, where
 -- writes leave it as it was, and elsewhere.
 use Rattle.std.proofs.Common.{◌≡◌, ℕ, zero, suc, ◌<◌, ◌≤◌, cond, eqb, ◌⊎◌, List, [], ◌∷◌, length, set, Some, sym, refl, ap, ◌∙◌, subst, inl, inr, arith, length-set}
-use Rattle.std.specs.List.{slice_get, AllByRecursion as All}
+use Rattle.std.specs.List.{slice_get, AllByRecursion}
 use Rattle.std.proofs.lemmas.Option.{slice_get_past}
-use Rattle.std.proofs.ByRecursion.{All-weaker}
 use Rattle.std.proofs.lemmas.Bool.{cases_eq, cases_lt, eq-eqb, ne_eqb}
 use Rattle.theory.specs.Fields.{field, of_element, writes, places, Rewrites}
 use Rattle.theory.specs.Lists.{In, Distinct}
 use Rattle.theory.proofs.Lists.{all_in, all_from, in_map}
-use Rattle.theory.proofs.Options.{none_not_some, not_both}
+use Rattle.theory.proofs.Options.{none_not_some}
 
 module _ {A : Type 0} where
   -- ---- elements
@@ -25,10 +24,7 @@ module _ {A : Type 0} where
   nth_set_other (a ∷ l) (suc i) zero x h = refl
   nth_set_other (a ∷ l) (suc i) (suc j) x h = nth_set_other l i j x (λ e. h (ap suc e))
 
-  -- a number has an element just if it is below the length
-  pub nth_below : (l : List A) (i : ℕ) (x : A) → slice_get l i ≡ Some x → i < length l
-  nth_below l i x e = elim (cases_lt i (length l)) [ inl lt ↦ lt | inr le ↦ absurd (not_both (slice_get_past l i le) e) ]
-
+  -- a number below the length has an element
   pub nth_found : (l : List A) (i : ℕ) → i < length l → (x : A) × (slice_get l i ≡ Some x)
   nth_found [] i lt = absurd (omega arith)
   nth_found (a ∷ l) zero lt = (a, refl)
@@ -81,12 +77,12 @@ module _ {A : Type 0} where
     -- ---- writes, one after the other
 
     -- a number that is not written, or with nothing but the value that the field has there
-    pub field_writes_equal : (l : List A) (ws : List (ℕ × A)) (j : ℕ) → All (Rewrites f d l j) ws → field f d (writes l ws) j ≡ field f d l j
+    pub field_writes_equal : (l : List A) (ws : List (ℕ × A)) (j : ℕ) → AllByRecursion (Rewrites f d l j) ws → field f d (writes l ws) j ≡ field f d l j
     field_writes_equal l [] j h = refl
     field_writes_equal l (w ∷ ws) j h =
         let l' = set l w.0 w.1 in
         let first = field_set_equal l w.0 j w.1 h.0 in
-        let rest = All-weaker (Rewrites f d l j) (Rewrites f d l' j) (λ v p e. p e ∙ sym first) ws h.1 in
+        let rest = all_from (Rewrites f d l' j) ws (λ v m e. all_in (Rewrites f d l j) v ws h.1 m e ∙ sym first) in
         field_writes_equal l' ws j rest ∙ first
 
     -- a number that is not written

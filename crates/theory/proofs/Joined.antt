@@ -1,5 +1,5 @@
--- Lists of lists, joined: their members, that no element is twice, and their length as a sum; when two sums are the same.
-use Rattle.std.proofs.Common.{◌≡◌, ℕ, ◌+◌, ◌⊎◌, List, [], ◌∷◌, length, sum_by, sym, refl, ap, ◌∙◌, inl, inr, arith, length-append}
+-- Lists of lists, joined: their members, and that no element is twice; when two sums are the same.
+use Rattle.std.proofs.Common.{◌≡◌, ℕ, ◌⊎◌, List, [], ◌∷◌, sum_by, sym, refl, inl, inr, arith}
 use Rattle.std.specs.List.{flat_map}
 use Rattle.std.proofs.lemmas.List.Sums.{sum_by-cons}
 use Rattle.theory.specs.Lists.{In, Distinct}
@@ -28,10 +28,6 @@ module _ {A B : Type 0} (f : A → List B) where
     where
       away : (y : B) → In y (f x) → In y (flat_map f l) → ⊥
       away y h k = let r = in_joined_cases y l k in apart x r.0 y (inl refl) (inr r.1) (all_in (λ z. x ≡ z → ⊥) r.0 l d.0 r.1) h r.2
-
-  pub length_joined : (l : List A) → length (flat_map f l) ≡ sum_by (λ x. length (f x)) l
-  length_joined [] = refl
-  length_joined (x ∷ l) = length-append (f x) (flat_map f l) ∙ (ap (λ (n : ℕ). length (f x) + n) (length_joined l) ∙ sym (sum_by-cons (λ x. length (f x)) x l))
 
 -- sums of the same numbers are the same
 pub sum_same : {A : Type 0} (f g : A → ℕ) (l : List A) → ((x : A) → In x l → f x ≡ g x) → sum_by f l ≡ sum_by g l

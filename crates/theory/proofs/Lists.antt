@@ -1,17 +1,16 @@
 -- Members of lists, lists without doubles, and a number put into a list or taken out.
-use Rattle.std.proofs.Common.{◌≡◌, ℕ, suc, not, eqb, ◌⊎◌, List, [], ◌∷◌, ◌++◌, map, length, sym, refl, ap, ◌∙◌, inl, inr}
-use Rattle.std.specs.List.{AllByRecursion as All}
-use Rattle.std.proofs.ByRecursion.{All-append, All-map, all_kept_by}
+use Rattle.std.proofs.Common.{◌≡◌, ℕ, suc, ◌⊎◌, List, [], ◌∷◌, ◌++◌, map, length, sym, refl, ap, ◌∙◌, inl, inr}
+use Rattle.std.specs.List.{AllByRecursion}
 use Rattle.std.proofs.lemmas.Bool.{cases_eq, eq-eqb, ne_eqb}
 use Rattle.theory.specs.Lists.{In, Pairwise, Distinct, spliced, without}
 
 module _ {A : Type 0} where
-  pub all_in : (P : A → Type 0) (x : A) (l : List A) → All P l → In x l → P x
+  pub all_in : (P : A → Type 0) (x : A) (l : List A) → AllByRecursion P l → In x l → P x
   all_in P x [] h m = absurd m
   all_in P x (y ∷ l) h (inl e) = rw e h.0
   all_in P x (y ∷ l) h (inr m) = all_in P x l h.1 m
 
-  pub all_from : (P : A → Type 0) (l : List A) → ((x : A) → In x l → P x) → All P l
+  pub all_from : (P : A → Type 0) (l : List A) → ((x : A) → In x l → P x) → AllByRecursion P l
   all_from P [] f = tt
   all_from P (y ∷ l) f = (f y (inl refl), all_from P l (λ x m. f x (inr m)))
 
@@ -44,8 +43,11 @@ module _ {A : Type 0} where
   pub distinct_append : (l m : List A) → Distinct l → Distinct m → ((x : A) → In x l → In x m → ⊥) → Distinct (l ++ m)
   distinct_append [] m dl dm apart = dm
   distinct_append (x ∷ l) m dl dm apart =
-      let other = all_from (λ y. x ≡ y → ⊥) m (λ y h e. apart y (inl (sym e)) h) in
-      (All-append (λ y. x ≡ y → ⊥) l m dl.0 other, distinct_append l m dl.1 dm (λ y h k. apart y (inr h) k))
+      (all_from (λ y. x ≡ y → ⊥) (l ++ m) (λ y h. other y (in_append_cases y l m h)), distinct_append l m dl.1 dm (λ y h k. apart y (inr h) k))
+    where
+      other : (y : A) → In y l ⊎ In y m → x ≡ y → ⊥
+      other y (inl h) e = all_in (λ z. x ≡ z → ⊥) y l dl.0 h e
+      other y (inr k) e = apart y (inl (sym e)) k
 
 pub in_map : {A B : Type 0} (f : A → B) (x : A) (l : List A) → In x l → In (f x) (map f l)
 in_map f x [] h = absurd h
@@ -60,10 +62,10 @@ in_map_cases f y (x ∷ l) (inr h) = let r = in_map_cases f y l h in (r.0, inr r
 pub distinct_map : {A B : Type 0} (f : A → B) → (l : List A) → ((x y : A) → In x l → In y l → f x ≡ f y → x ≡ y) → Distinct l → Distinct (map f l)
 distinct_map f [] one d = tt
 distinct_map f (x ∷ l) one d =
-    (All-map (λ b. f x ≡ b → ⊥) f l (all_from (λ y. f x ≡ f y → ⊥) l other), distinct_map f l (λ y z m n. one y z (inr m) (inr n)) d.1)
+    (all_from (λ b. f x ≡ b → ⊥) (map f l) other, distinct_map f l (λ y z m n. one y z (inr m) (inr n)) d.1)
   where
-    other : (y : _) → In y l → f x ≡ f y → ⊥
-    other y m e = all_in (λ z. x ≡ z → ⊥) y l d.0 m (one x y (inl refl) (inr m) e)
+    other : (b : _) → In b (map f l) → f x ≡ b → ⊥
+    other b m e = let r = in_map_cases f b l m in all_in (λ z. x ≡ z → ⊥) r.0 l d.0 r.1 (one x r.0 (inl refl) (inr r.1) (e ∙ r.2))
 
 -- ---- a number put in
 
@@ -151,9 +153,12 @@ pub distinct_without : (y : ℕ) (l : List ℕ) → Distinct l → Distinct (wit
 distinct_without y [] d = tt
 distinct_without y (j ∷ l) d = go (cases_eq j y) (distinct_without y l d.1)
   where
+    other : (i : ℕ) → In i (without y l) → j ≡ i → ⊥
+    other i m = all_in (λ k. j ≡ k → ⊥) i l d.0 (in_without_cases i y l m).0
+
     go : (j ≡ y) ⊎ (j ≡ y → ⊥) → Distinct (without y l) → Distinct (without y (j ∷ l))
     go (inl e) ih = rw (eq-eqb j y e) ih
-    go (inr ne) ih = rw (ne_eqb j y ne) (all_kept_by (λ i. not (eqb i y)) (λ i. j ≡ i → ⊥) l d.0, ih)
+    go (inr ne) ih = rw (ne_eqb j y ne) (all_from (λ i. j ≡ i → ⊥) (without y l) other, ih)
 
 pub length_without : (y : ℕ) (l : List ℕ) → Distinct l → In y l → length l ≡ suc (length (without y l))
 length_without y [] d m = absurd m

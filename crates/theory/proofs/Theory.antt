@@ -1,6 +1,7 @@
 -- The central facts, each from its lemma.
 use Rattle.std.proofs.Common.{◌≡◌, true}
 use Rattle.std.proofs.lemmas.Bool.{both_ways}
+use Rattle.std.proofs.lemmas.List.Concat.{length-flat_map}
 use Rattle.order.specs.declared.key.Order.{Order}
 use Rattle.order.specs.Orders.{OrderLaws}
 use Rattle.theory.specs.Keys.{KeyBefore}
@@ -8,7 +9,7 @@ use Rattle.theory.specs.Theory.{Passes, ChainFacts, ReachFacts, WayFacts, CountF
 use Rattle.theory.proofs.Chains.{linked_unique, linked_distinct, linked_elsewhere, linked_link, linked_unlink}
 use Rattle.theory.proofs.Counts.{count_grows, count_one_more, count_gains, count_listed, length_below}
 use Rattle.theory.proofs.Fields.{field_past, field_writes_at, field_writes_else, field_writes_equal}
-use Rattle.theory.proofs.Joined.{length_joined, distinct_joined}
+use Rattle.theory.proofs.Joined.{distinct_joined}
 use Rattle.theory.proofs.Keys.{pairwise_from_next, next_from_pairwise, rises_distinct, rising_keys, arrives_at, greatest}
 use Rattle.theory.proofs.Reach.{reach_reuse, reach_link, reach_unlink, ahead_chain, reach_in_chain, ahead_move}
 use Rattle.theory.proofs.Ways.{acyclic_with, closed_no_way, acyclic_stamped, first_visit}
@@ -47,7 +48,7 @@ count_facts = record {
   at_least_one_more = count_gains;
   list_is_as_long = count_listed;
   distinct_below = length_below;
-  joined_is_the_sum = length_joined;
+  joined_is_the_sum = length-flat_map;
   joined_is_distinct = distinct_joined;
 }
 

@@ -7,14 +7,14 @@
 --     Links kept next next' p x    x is linked behind p: p is followed by x, x by what followed p, every other kept number by what followed it
 --     Unlinks kept next next' p y  y is unlinked: it followed p, p is followed by what followed y, every other kept number by what followed it
 use Rattle.std.specs.Prelude.{◌≡◌, ℕ, Bool, true, List, [], ◌∷◌, Some, None, Option, ◌≢◌}
-use Rattle.std.specs.List.{AllByRecursion as All}
+use Rattle.std.specs.List.{AllByRecursion}
 
 abbrev pub Linked : (ℕ → Option ℕ) → Option ℕ → List ℕ → Type 0
 Linked next o [] = o ≡ None
 Linked next o (i ∷ l) = (o ≡ Some i) × Linked next (next i) l
 
 abbrev pub AllKept : (ℕ → Bool) → List ℕ → Type 0
-AllKept kept l = All (λ i. kept i ≡ true) l
+AllKept kept l = AllByRecursion (λ i. kept i ≡ true) l
 
 module _ (kept : ℕ → Bool) (next : ℕ → Option ℕ) where
   abbrev pub Closed : Type 0

@@ -5,7 +5,7 @@
 --     Arrives order key next s l w p q    a traversal for the key w, along the chain l behind s, stops at p with q next: p is s, or one of
 --                                l with a key before w; q follows p, and is none or has a key that is not before w
 use Rattle.std.specs.Prelude.{◌≡◌, ℕ, ◌⊎◌, List, Some, Option, ◌≢◌}
-use Rattle.std.specs.List.{AllByRecursion as All}
+use Rattle.std.specs.List.{AllByRecursion}
 use Rattle.order.specs.declared.key.Order.{Order}
 use Rattle.order.specs.declared.key.Order.TheVariants.{Before}
 use Rattle.theory.specs.Lists.{In, Pairwise}
@@ -19,7 +19,7 @@ module _ {K : Type 0} (order : K → K → Order) {A : Type 0} (key : A → K) w
 
   pub record Greatest (g : A) (l : List A) : Type 0 where
     pub member : In g l
-    pub none_after : All (λ x. KeyBefore g x → ⊥) l
+    pub none_after : AllByRecursion (λ x. KeyBefore g x → ⊥) l
 
 pub record Arrives {K : Type 0} (order : K → K → Order) (key : ℕ → K) (next : ℕ → Option ℕ) (s : ℕ) (l : List ℕ) (w : K) (p : ℕ) (q : Option ℕ) : Type 0 where
   pub stands : (p ≡ s) ⊎ (In p l × (order (key p) w ≡ Before))

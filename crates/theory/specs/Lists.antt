@@ -5,7 +5,7 @@
 --     spliced s p x l   the list l, which stands behind s, with x put in behind p, where p is s or among l
 --     without y l       the list l without y
 use Rattle.std.specs.Prelude.{◌≡◌, ℕ, cond, not, ◌⊎◌, List, [], ◌∷◌, filter, ◌==◌, ◌≢◌}
-use Rattle.std.specs.List.{AllByRecursion as All}
+use Rattle.std.specs.List.{AllByRecursion}
 
 module _ {A : Type 0} where
   abbrev pub In : A → List A → Type 0
@@ -14,7 +14,7 @@ module _ {A : Type 0} where
 
   abbrev pub Pairwise : (A → A → Type 0) → List A → Type 0
   Pairwise R [] = Unit {0}
-  Pairwise R (x ∷ l) = All (R x) l × Pairwise R l
+  Pairwise R (x ∷ l) = AllByRecursion (R x) l × Pairwise R l
 
   abbrev pub Distinct : List A → Type 0
   Distinct l = Pairwise (λ x y. x ≢ y) l

@@ -9,7 +9,7 @@
 --     KeyFacts order A      keys along chains; the greatest key of elements of A
 --     Examples              the definitions at work on small lists, and on the chains three, four and three_again
 use Rattle.std.specs.Prelude.{◌≡◌, ℕ, zero, suc, ◌<◌, ◌≤◌, Bool, true, false, ◌⊎◌, ◌↔◌, List, [], ◌∷◌, map, length, Some, None, sum_by, Option, ◌≢◌, nat_lt}
-use Rattle.std.specs.List.{flat_map, AllByRecursion as All}
+use Rattle.std.specs.List.{flat_map, AllByRecursion}
 use Rattle.order.specs.declared.key.Order.{Order}
 use Rattle.order.specs.Lists.{rising}
 use Rattle.order.specs.Orders.{numbered}
@@ -86,7 +86,7 @@ pub record FieldFacts (A B : Type 0) : Type 0 where
   pub same_elsewhere :
       (f : A → B) (d : B) (l : List A) (ws : List (ℕ × A)) (j : ℕ) → (In j (places ws) → ⊥) → field f d (writes l ws) j ≡ field f d l j
   pub same_where_rewritten :
-      (f : A → B) (d : B) (l : List A) (ws : List (ℕ × A)) (j : ℕ) → All (Rewrites f d l j) ws → field f d (writes l ws) j ≡ field f d l j
+      (f : A → B) (d : B) (l : List A) (ws : List (ℕ × A)) (j : ℕ) → AllByRecursion (Rewrites f d l j) ws → field f d (writes l ws) j ≡ field f d l j
 
 pub record KeyFacts {K : Type 0} (order : K → K → Order) (A : Type 0) : Type 0 where
   pub rising_from_neighbours :
