@@ -1,5 +1,5 @@
 -- A run of calls on a fresh board is a ledger, if each of its steps makes one of a ledger's moves; so its history exists.
-use Rattle.std.proofs.Common.{◌≡◌, ℕ, zero, suc, true, false, ◌⊎◌, List, [], ◌∷◌, map, length, Some, None, Option, Result, sym, refl, ap, ◌∙◌, subst, inl, inr, true≢false, arith}
+use Rattle.std.proofs.Common.{◌≡◌, ℕ, zero, suc, true, ◌⊎◌, List, [], ◌∷◌, map, length, Some, None, Option, Result, sym, refl, ap, ◌∙◌, subst, inl, inr, true≢false, arith}
 use Rattle.std.specs.List.{slice_get}
 use Rattle.std.specs.Result.{result_ok}
 use Rattle.std.proofs.lemmas.Bool.{cases_eq}
@@ -30,7 +30,7 @@ use Rattle.rules.specs.Calls as calls
 use Rattle.rules.specs.Calls.{answer_of, with_phase, with_controller, begin, first_phase}
 use Rattle.rules.specs.Runs.{called, or_refused}
 use Rattle.law.specs.History.{Same, empty, Request, Run, Event}
-use Rattle.law.specs.History.{Event.started, Event.stepped, Event.collected, Event.other}
+use Rattle.law.specs.History.{Event.started, Event.collected, Event.other}
 use Rattle.law.specs.Ledger.{Stage, Move, Unchanged, Others, Ledger}
 use Rattle.law.specs.Ledger.{Stage.rest, Stage.seek, Stage.bound, Stage.owed, Stage.done}
 use Rattle.law.specs.Readings.{start_event, moved_event, step_event, collect_event, event_of, graph_of, by_edit, by_then, by_phase, by_operation, stage_of, stage_at, call_at, memory_at, outcome_at, event_at, run_of}
