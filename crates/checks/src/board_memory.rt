@@ -29,7 +29,7 @@ const BUSY: Controller<u32> = Controller {
     },
 };
 
-// What set_up answers on so many nodes, controllers and marks, as the number of its refusal; 0 if it is taken.
+// What set-up answers on so many nodes, controllers and marks, as the number of its refusal; 0 if it is taken.
 fn answer(heap: Global, n: usize, c: usize, m: usize, first: u32) -> Result<u8, Fail> {
     let mut header = Header { next_ticket: 77 };
     let mut nodes = vec![in heap; USED; n]?;

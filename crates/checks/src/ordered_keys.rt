@@ -102,7 +102,7 @@ fn equal_keys_do_not_rise(rt: HostRuntime) {
 #[test]
 fn arrangement_keeps_doubles(rt: HostRuntime) -> Result<(), Fail> {
     let keys = arrange(rt.alloc(), &[7u32, 0, 7, u32::MAX, 5])?;
-    assert_eq!(rt; keys.as_slice(), &[0, 5, 7, 7, u32::MAX]);
+    assert_eq!(rt; keys.as_slice(), [0, 5, 7, 7, u32::MAX].as_slice());
     Ok(())
 }
 
