@@ -3,7 +3,7 @@
 --     stepped w m           step: controller w takes one step
 --     collected w m         collect: the answer of controller w is handed over, and it is idle
 --     counted m             count: jobs and waits of the graph, and nodes free to be used
---     A refusal leaves the memory as it was. Each check is a definition by-… that takes what it looks at; a call names
+--     A refusal leaves the memory as it was. Each check is a definition by_… that takes what it looks at; a call names
 --     its first check, and each check the next, so they are read from the call upwards:
 --     start: size, controller, idle, operation, ticket; step: size, controller, running, decision, nodes;
 --     collect: size, controller, answer; count: size, count
