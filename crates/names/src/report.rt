@@ -1,5 +1,5 @@
 // What is told of a list: its faults, its names in the board's order, and a line that sums up.
-ghost use Rattle.std.specs.Prelude.{◌≡◌, ◌+◌, List, ◌++◌, map, IfOk, None as Nothing, string_bytes, OnOk};
+ghost use Rattle.std.specs.Prelude.{◌≡◌, ◌++◌, map, IfOk, None as Nothing, string_bytes, OnOk};
 ghost use Rattle.names.specs.Reports.{refused_count, fault_line, fault_lines, repeats as repeats_key, doubles as doubles_in, mark as marked, name_line, name_lines, summary as summed, told, Reported, TellsUnder, Tells};
 
 use crate::heading::{Heading, find_heading};
