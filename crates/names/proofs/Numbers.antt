@@ -1,6 +1,6 @@
 -- One piece more of a line that is cut into words, and one word more that is to be a number.
 use Rattle.std.proofs.Common.{◌≡◌, ℕ, ◌+◌, ◌<◌, ◌≤◌, true, false, eqb, List, [], ◌∷◌, ◌++◌, map, length, get_or, drop, Some, None, Option, sym, refl, ap, ◌∙◌, append_assoc, append-nil, arith, Bor, eqb-true}
-use borrow.Author.Tests.{eqb_false}
+use borrow.Author.Tests.{eqb-false}
 use Rattle.std.proofs.lemmas.List.{at_drop_more, at_drop_all, map_push}
 use Rattle.names.specs.Text.{filled, number, and_then, numbers}
 
@@ -36,7 +36,7 @@ module _ (ws ps : List (Bor (List ℕ))) (i : ℕ) (d : Bor (List ℕ)) (here : 
       ∙ ap (λ l. l ++ filled rest) (map_push (λ x. x.now) ws w)
       ∙ append_assoc (map (λ x. x.now) ws) (w.now ∷ []) (filled rest)
       ∙ ap (λ v. map (λ x. x.now) ws ++ (v ∷ filled rest)) is
-      ∙ sym (at_drop_more (λ l. map (λ x. x.now) ws ++ filled (map (λ x. x.now) l)) ps i d here ∙ ap (λ l. map (λ x. x.now) ws ++ l) (filled_some piece rest (eqb_false (length piece) 0 e)))
+      ∙ sym (at_drop_more (λ l. map (λ x. x.now) ws ++ filled (map (λ x. x.now) l)) ps i d here ∙ ap (λ l. map (λ x. x.now) ws ++ l) (filled_some piece rest (eqb-false (length piece) 0 e)))
 
 pub no_more_pieces : (ws ps : List (Bor (List ℕ))) (i : ℕ) → length ps ≤ i → words_from ws ps i ≡ map (λ x. x.now) ws
 no_more_pieces ws ps i past = at_drop_all (λ l. map (λ x. x.now) ws ++ filled (map (λ x. x.now) l)) ps i past ∙ append-nil (map (λ x. x.now) ws)

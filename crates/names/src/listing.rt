@@ -22,7 +22,7 @@ pub struct Listing<K> {
 
 // What one line gives. The outer error is want of memory.
 fn entry<K: Name>(heap: Global, line: &[u8]) -> Result<Result<Option<K>, Fault>, AllocError>
-    ensures { IfOk result (λ e. e ≡ entry_on named line.now) }
+    ensures { IfOk result (λ e. e ≡ entry_on K.named line.now) }
 {
     let words = words(heap, line)?;
     let Some(ns) = numbers(heap, &words)? else {
@@ -61,8 +61,8 @@ pub fn read_lines<K: Name>(
     lines: &[&[u8]],
     from: usize,
 ) -> Result<Listing<K>, AllocError>
-    ensures names { IfOk result (λ l. l.names.items ≡ names_in named (map (λ x. x.now) (drop from lines.now))) }
-    ensures faults { IfOk result (λ l. l.faults.items ≡ faults_in named (from + 1) (map (λ x. x.now) (drop from lines.now))) }
+    ensures names { IfOk result (λ l. l.names.items ≡ names_in K.named (map (λ x. x.now) (drop from lines.now))) }
+    ensures faults { IfOk result (λ l. l.faults.items ≡ faults_in K.named (from + 1) (map (λ x. x.now) (drop from lines.now))) }
 {
     let mut listing = Listing {
         names: Vec::new(heap),

@@ -1,5 +1,5 @@
 // What is told of a list: its faults, its names in the board's order, and a line that sums up.
-ghost use Rattle.std.specs.Prelude.{◌≡◌, ◌+◌, List, ◌++◌, map, IfOk, None as Nothing, string_bytes, OnOk};
+ghost use Rattle.std.specs.Prelude.{◌≡◌, ◌++◌, map, IfOk, None as Nothing, string_bytes, OnOk};
 ghost use Rattle.names.specs.Reports.{refused_count, fault_line, fault_lines, repeats as repeats_key, doubles as doubles_in, mark as marked, name_line, name_lines, summary as summed, told, Reported, TellsUnder, Tells};
 
 use crate::heading::{Heading, find_heading};
@@ -53,7 +53,7 @@ fn write_name<K: Name>(
     double: bool,
     key: K,
 ) -> Result<String, AllocError>
-    ensures { IfOk result (λ s. string_bytes s ≡ name_line written place double key) }
+    ensures { IfOk result (λ s. string_bytes s ≡ name_line K.written place double key) }
 {
     let name = key.write(heap)?;
     let mark = mark(double);
@@ -78,7 +78,7 @@ fn push_faults(
 
 // Adds the lines for the keys, in their order.
 fn push_names<K: Name>(out: &mut String, heap: Global, keys: &[K]) -> Result<(), AllocError>
-    ensures { OnOk result (string_bytes out.new ≡ string_bytes out.old ++ name_lines K.Key.order written Nothing 1 keys.now) }
+    ensures { OnOk result (string_bytes out.new ≡ string_bytes out.old ++ name_lines K.Key.order K.written Nothing 1 keys.now) }
 {
     let mut previous = None;
     for (i, key) in keys.iter().enumerate() {
@@ -135,7 +135,7 @@ fn write_summary(
 
 // Faults, names and the last line, of a list that was read and arranged.
 fn tell<K: Name>(heap: Global, keys: &[K], faults: &[LineFault]) -> Result<String, AllocError>
-    ensures { IfOk result (λ s. string_bytes s ≡ told K.Key.order written expected keys.now faults.now) }
+    ensures { IfOk result (λ s. string_bytes s ≡ told K.Key.order K.written K.expected keys.now faults.now) }
 {
     let mut out = String::new(heap);
     push_faults(&mut out, heap, faults, K::expectation())?;
@@ -149,7 +149,7 @@ fn tell<K: Name>(heap: Global, keys: &[K], faults: &[LineFault]) -> Result<Strin
 
 // What is told of the names on the lines from this index on.
 fn report_names<K: Name>(heap: Global, lines: &[&[u8]], from: usize) -> Result<String, AllocError>
-    ensures { IfOk result (λ s. Reported K.Key.order named written expected from (map (λ x. x.now) lines.now) (string_bytes s)) }
+    ensures { IfOk result (λ s. Reported K.Key.order K.named K.written K.expected from (map (λ x. x.now) lines.now) (string_bytes s)) }
 {
     let listing = read_lines::<K>(heap, lines, from)?;
     let keys = arrange(heap, &listing.names)?;
