@@ -48,7 +48,7 @@ fn address_keeps_its_numbers(rt: HostRuntime) -> Result<(), Fail> {
                 }
             );
             Ok(())
-        },
+        }
         Err(_) => Err(Fail::new("an address was refused")),
     }
 }
@@ -60,7 +60,7 @@ fn no_place_is_ten(rt: HostRuntime) -> Result<(), Fail> {
         Err(refusal) => {
             assert_eq!(rt; refusal.number(), 10);
             Ok(())
-        },
+        }
     }
 }
 

@@ -1,6 +1,6 @@
 // What the rules write to chains. Each function looks at the nodes that it names before it writes.
 ghost use Rattle.std.specs.Prelude.{◌≡◌};
-ghost use Rattle.nodes.specs.Effects.{written, link_job, link_wait, removed_kind, mark_removed, committed_kind, commit as committed, unlink as unlinked, retire as retired-with};
+ghost use Rattle.nodes.specs.Effects.{written, link_job, link_wait, removed_kind, mark_removed, committed_kind, commit as committed, unlink as unlinked, retire as retired_with};
 
 use crate::access::{put, read};
 use crate::controller::JobRef;
@@ -200,7 +200,7 @@ pub fn unlink<K: Copy>(
 
 // Retires a sentinel with this number.
 pub fn retire<K: Copy>(nodes: &mut [Node<K>], at: u16, number: u32) -> Result<(), Damage>
-    ensures { (result, nodes.new) ≡ written nodes.old (retired-with at number nodes.old) }
+    ensures { (result, nodes.new) ≡ written nodes.old (retired_with at number nodes.old) }
 {
     match read(nodes, usize::from(at)) {
         Some(node) => match node.kind {
