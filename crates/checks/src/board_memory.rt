@@ -1,7 +1,7 @@
 // Set-up at the edges of its sizes, and the size of a node.
 use nodes::controller::{Controller, JobRef, Phase};
 use nodes::node::{Kind, Node};
-use nodes::setup::{Header, set_up_board};
+use nodes::setup::{Board, Header};
 use order::row::Row;
 use std::alloc::Global;
 use std::test::Fail;
@@ -35,7 +35,13 @@ fn answer(heap: Global, n: usize, c: usize, m: usize, first: u32) -> Result<u8, 
     let mut nodes = vec![in heap; USED; n]?;
     let mut controllers = vec![in heap; BUSY; c]?;
     let mut marks = vec![in heap; 3u8; m]?;
-    match set_up_board(&mut header, &mut nodes, &mut controllers, &mut marks, first) {
+    let mut board = Board {
+        header: &mut header,
+        nodes: &mut nodes,
+        controllers: &mut controllers,
+        marks: &mut marks,
+    };
+    match board.set_up(first) {
         Ok(()) => Ok(0),
         Err(refusal) => Ok(refusal.number()),
     }
@@ -64,7 +70,13 @@ fn set_up_clears_all_but_keys(rt: HostRuntime) {
     let mut nodes = [USED; 2];
     let mut controllers = [BUSY; 1];
     let mut marks = [3u8; 2];
-    assert!(rt; set_up_board(&mut header, &mut nodes, &mut controllers, &mut marks, 4).is_ok());
+    let mut board = Board {
+        header: &mut header,
+        nodes: &mut nodes,
+        controllers: &mut controllers,
+        marks: &mut marks,
+    };
+    assert!(rt; board.set_up(4).is_ok());
     assert_eq!(rt; header.next_ticket, 4);
     assert!(rt; matches!(nodes[0].kind, Kind::Sentinel) && matches!(nodes[1].kind, Kind::Vacant));
     assert_eq!(rt; nodes[1].key, 7);

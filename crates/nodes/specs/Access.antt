@@ -2,6 +2,7 @@
 --     node_at ns i        the node with the number i, if there is one
 --     o >>= f             what f makes of a value that is there; none is damage
 --     or_damage o         the same as a function's answer
+--     new_node x k        a node with the key x and the kind k, and nothing else
 --     with_next n x       the node n with another next node; and so for lock, kind and retire number
 use Rattle.std.specs.Prelude.{ℕ, Bool, true, false, List, Some, None, Ok, Err, Option, Result, ◌==◌}
 use Rattle.std.specs.List.{slice_get}
@@ -33,6 +34,9 @@ same_number (Some i) (Some j) = i == j
 module _ {K : Type 0} where
   abbrev pub node_at : List (Node K) → ℕ → Option (Node K)
   node_at ns i = slice_get ns i
+
+  abbrev pub new_node : K → Kind → Node K
+  new_node key kind = record { key = key; kind = kind; next = None; lock = None; retired = None }
 
   abbrev pub with_next : Node K → Option ℕ → Node K
   with_next n x = record { key = n.key; kind = n.kind; next = x; lock = n.lock; retired = n.retired }

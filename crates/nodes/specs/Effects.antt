@@ -6,6 +6,7 @@
 --     unlock w p o         of the pair p and the other node o, those that w holds are unlocked
 --     link_job p …         a new job and its sentinel, linked between the pair p
 --     link_wait p …        a new tentative wait, locked by its maker, linked between the pair p
+--     rewrite_kind f i     node i with what f makes of its kind
 --     mark_removed i       the job or wait i is removed
 --     commit i             the wait i is committed
 --     unlink i j n         j, which follows i, leaves the chain with the retire number n
@@ -20,7 +21,7 @@ use Rattle.nodes.specs.declared.node.Kind.{Kind}
 use Rattle.nodes.specs.declared.node.Kind.TheVariants.{Vacant, Sentinel, Job, Wait}
 use Rattle.nodes.specs.declared.node.WaitState.TheVariants.{Tentative, Committed, Removed}
 use Rattle.nodes.specs.declared.refusal.Damage.{Damage}
-use Rattle.nodes.specs.Access.{◌>>=◌, when, same_number, node_at, with_next, with_lock, with_kind, with_retired}
+use Rattle.nodes.specs.Access.{◌>>=◌, when, same_number, node_at, new_node, with_next, with_lock, with_kind, with_retired}
 use Rattle.nodes.specs.Chains.{is_sentinel, heads, chain_of}
 
 abbrev pub removed_kind : Kind → Option Kind
@@ -73,7 +74,7 @@ module _ {K : Type 0} where
   new_job key generation sentinel next = record { key = key; kind = Job generation sentinel false; next = next; lock = None; retired = None }
 
   abbrev pub new_sentinel : K → Node K
-  new_sentinel key = record { key = key; kind = Sentinel; next = None; lock = None; retired = None }
+  new_sentinel key = new_node key Sentinel
 
   abbrev pub new_wait : K → ℕ → JobRef → Option ℕ → Node K
   new_wait key w v next = record { key = key; kind = Wait v.generation v.node Tentative; next = next; lock = Some w; retired = None }
@@ -89,11 +90,14 @@ module _ {K : Type 0} where
       node_at ns p.0 >>= λ x. node_at ns t >>= λ _.
       Some (slice_set (slice_set ns t (new_wait key w v p.1)) p.0 (with_next x (Some t)))
 
+  abbrev pub rewrite_kind : (Kind → Option Kind) → ℕ → List (Node K) → Option (List (Node K))
+  rewrite_kind becomes i ns = node_at ns i >>= λ x. becomes x.kind >>= λ k. Some (slice_set ns i (with_kind x k))
+
   abbrev pub mark_removed : ℕ → List (Node K) → Option (List (Node K))
-  mark_removed i ns = node_at ns i >>= λ x. removed_kind x.kind >>= λ k. Some (slice_set ns i (with_kind x k))
+  mark_removed i ns = rewrite_kind removed_kind i ns
 
   abbrev pub commit : ℕ → List (Node K) → Option (List (Node K))
-  commit i ns = node_at ns i >>= λ x. committed_kind x.kind >>= λ k. Some (slice_set ns i (with_kind x k))
+  commit i ns = rewrite_kind committed_kind i ns
 
   abbrev pub unlink : ℕ → ℕ → ℕ → List (Node K) → Option (List (Node K))
   unlink i j n ns =

@@ -13,6 +13,7 @@ use Rattle.nodes.specs.declared.node.Kind.TheVariants.{Vacant, Sentinel}
 use Rattle.nodes.specs.declared.refusal.Refusal.{Refusal}
 use Rattle.nodes.specs.declared.refusal.Refusal.TheVariants.{Misfit, BadFirst}
 use Rattle.nodes.specs.declared.setup.Header.{Header}
+use Rattle.nodes.specs.Access.{new_node}
 
 pub record Memory (K : Type 0) : Type 0 where
   pub header : Header
@@ -28,7 +29,7 @@ module _ {K : Type 0} where
   fits m = sizes_fit (length m.nodes) (length m.controllers) (length m.marks)
 
   abbrev pub cleared : Kind → Node K → Node K
-  cleared kind n = record { key = n.key; kind = kind; next = None; lock = None; retired = None }
+  cleared kind n = new_node n.key kind
 
   abbrev pub fresh_nodes : List (Node K) → List (Node K)
   fresh_nodes [] = []

@@ -8,14 +8,11 @@ use crate::node::Node;
 pub fn read<K: Copy>(nodes: &[Node<K>], at: usize) -> Option<Node<K>>
     ensures { result ≡ node_at nodes.now at }
 {
-    if at < nodes.len() {
-        Some(nodes[at])
-    } else {
-        None
-    }
+    nodes.get(at).copied()
 }
 
 // Writes a node in the place of the one with this number; a number past the end changes nothing.
+// It indexes, since of a slice's `get_mut` nothing is known that is written through it.
 pub fn put<K: Copy>(nodes: &mut [Node<K>], at: usize, node: Node<K>)
     ensures { nodes.new ≡ slice_set nodes.old at node }
 {

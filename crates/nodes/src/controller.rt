@@ -2,6 +2,8 @@
 ghost use Rattle.std.specs.Prelude.{◌≡◌};
 ghost use Rattle.nodes.specs.Operations.{operation_of};
 
+use crate::node::Pair;
+
 // What an operation answers.
 #[derive(Clone, Copy)]
 pub enum Answer {
@@ -113,30 +115,30 @@ pub enum Phase {
     },
     LockFirst {
         edit: Edit,
-        pair: (u16, Option<u16>),
+        pair: Pair,
     },
     LockSecond {
         edit: Edit,
-        pair: (u16, Option<u16>),
+        pair: Pair,
     },
     Validate {
         edit: Edit,
-        pair: (u16, Option<u16>),
+        pair: Pair,
     },
     Explore {
         u: JobRef,
         v: JobRef,
-        pair: (u16, Option<u16>),
+        pair: Pair,
         tentative: u16,
         place: Option<u16>,
     },
     Unlink {
-        pair: (u16, Option<u16>),
+        pair: Pair,
         taken: u16,
         then: Then,
     },
     Unlock {
-        pair: (u16, Option<u16>),
+        pair: Pair,
         other: Option<u16>,
         then: Then,
     },

@@ -4,26 +4,21 @@ ghost use Rattle.nodes.specs.Effects.{lockable, try_lock, there, unlock_one, unl
 
 use crate::access::{put, read};
 use crate::call::StepOutcome;
-use crate::node::Node;
+use crate::node::{Node, Pair};
 use crate::refusal::Damage;
 
 // Whether a lock is free, or this controller's own.
 fn is_lockable(lock: Option<u8>, who: u8) -> bool
     ensures { result ≡ lockable who lock }
 {
-    match lock {
-        None => true,
-        Some(holder) => holder == who,
-    }
+    lock.is_none_or(|holder| holder == who)
 }
 
 // Locks a node for a controller; waiting, with no change, where another one holds it.
 pub fn lock<K: Copy>(nodes: &mut [Node<K>], at: u16, who: u8) -> Result<StepOutcome, Damage>
     ensures { (result, nodes.new) ≡ try_lock who at nodes.old }
 {
-    let Some(node) = read(nodes, usize::from(at)) else {
-        return Err(Damage);
-    };
+    let node = read(nodes, usize::from(at)).ok_or(Damage)?;
     if !is_lockable(node.lock, who) {
         return Ok(StepOutcome::Waiting);
     }
@@ -36,13 +31,11 @@ pub fn lock<K: Copy>(nodes: &mut [Node<K>], at: u16, who: u8) -> Result<StepOutc
 fn unlock_one<K: Copy>(nodes: &mut [Node<K>], at: u16, who: u8)
     ensures { nodes.new ≡ unlock_one who at nodes.old }
 {
-    if let Some(node) = read(nodes, usize::from(at)) {
-        if let Some(holder) = node.lock {
-            if holder == who {
-                let lock = None;
-                put(nodes, usize::from(at), Node { lock, ..node });
-            }
+    match read(nodes, usize::from(at)) {
+        Some(node) if node.lock == Some(who) => {
+            put(nodes, usize::from(at), Node { lock: None, ..node })
         }
+        _ => (),
     }
 }
 
@@ -58,16 +51,13 @@ fn unlock_maybe<K: Copy>(nodes: &mut [Node<K>], at: Option<u16>, who: u8)
 fn is_there<K>(nodes: &[Node<K>], at: Option<u16>) -> bool
     ensures { result ≡ there nodes.now at }
 {
-    match at {
-        None => true,
-        Some(at) => usize::from(at) < nodes.len(),
-    }
+    at.is_none_or(|at| usize::from(at) < nodes.len())
 }
 
 // Of a pair and another node, unlocks those that this controller holds.
 pub fn unlock<K: Copy>(
     nodes: &mut [Node<K>],
-    pair: (u16, Option<u16>),
+    pair: Pair,
     other: Option<u16>,
     who: u8,
 ) -> Result<(), Damage>

@@ -1,8 +1,15 @@
 // Nodes, from which all chains of the board are made.
+ghost use Rattle.std.specs.Prelude.{◌≡◌};
+ghost use Rattle.nodes.specs.Effects.{removed_kind, committed_kind};
+ghost use Rattle.nodes.specs.Access.{new_node};
+
+// A node and the next one of its chain, or none. The rules speak of pairs of numbers, so it is a
+// tuple and no struct.
+pub type Pair = (u16, Option<u16>);
 
 // How far a wait has come: `Tentative` while its maker still explores whether it would close a
 // circle, `Committed` once it stands, `Removed` when it is to be unlinked or has been.
-#[derive(Clone, Copy)]
+#[derive(Clone, Copy, Debug, PartialEq, Eq)]
 pub enum WaitState {
     Tentative,
     Committed,
@@ -12,7 +19,7 @@ pub enum WaitState {
 // What a node is. A sentinel heads a chain: node 0 that of the jobs, and each job's own sentinel that
 // of the waits from it. A job's generation is the ticket of the operation that added it, so a job
 // that was removed and added again is another job. A wait names its target by node and generation.
-#[derive(Clone, Copy)]
+#[derive(Clone, Copy, Debug, PartialEq, Eq)]
 pub enum Kind {
     Vacant,
     Sentinel,
@@ -28,6 +35,53 @@ pub enum Kind {
     },
 }
 
+impl Kind {
+    // The kind of a job or a wait once it is removed.
+    pub(crate) fn removed(self) -> Option<Kind>
+        ensures { result ≡ removed_kind self }
+    {
+        match self {
+            Kind::Vacant | Kind::Sentinel => None,
+            Kind::Job {
+                generation,
+                sentinel,
+                ..
+            } => Some(Kind::Job {
+                generation,
+                sentinel,
+                removed: true,
+            }),
+            Kind::Wait {
+                generation,
+                target,
+                ..
+            } => Some(Kind::Wait {
+                generation,
+                target,
+                state: WaitState::Removed,
+            }),
+        }
+    }
+
+    // The kind of a wait once it is committed.
+    pub(crate) fn committed(self) -> Option<Kind>
+        ensures { result ≡ committed_kind self }
+    {
+        match self {
+            Kind::Wait {
+                generation,
+                target,
+                ..
+            } => Some(Kind::Wait {
+                generation,
+                target,
+                state: WaitState::Committed,
+            }),
+            _ => None,
+        }
+    }
+}
+
 // A node: its key (a wait's is its target's), its kind, the next node of its chain, the controller
 // that holds its lock, and, once it has left its chain, the next ticket at that moment.
 #[derive(Clone, Copy)]
@@ -37,4 +91,19 @@ pub struct Node<K> {
     pub next: Option<u16>,
     pub lock: Option<u8>,
     pub retired: Option<u32>,
+}
+
+impl<K> Node<K> {
+    // A node with a key and a kind: no next node, no lock, in use.
+    pub(crate) fn new(key: K, kind: Kind) -> Node<K>
+        ensures { result ≡ new_node key kind }
+    {
+        Node {
+            key,
+            kind,
+            next: None,
+            lock: None,
+            retired: None,
+        }
+    }
 }

@@ -5,7 +5,7 @@ ghost use Rattle.nodes.specs.Effects.{written, link_job, link_wait, unlink as un
 ghost use Rattle.nodes.specs.Reuse.{highest, reusable_count};
 
 use crate::controller::{Controller, JobRef};
-use crate::node::Node;
+use crate::node::{Node, Pair};
 use crate::refusal::Damage;
 use crate::{links, reuse};
 
@@ -32,7 +32,7 @@ impl<K: Copy> Pool<'_, K> {
     // Links a new job between a pair of neighbours, with a sentinel of its own.
     pub fn link_job(
         &mut self,
-        pair: (u16, Option<u16>),
+        pair: Pair,
         job: u16,
         sentinel: u16,
         key: K,
@@ -47,7 +47,7 @@ impl<K: Copy> Pool<'_, K> {
     // Links a new tentative wait between a pair of neighbours, locked by its maker.
     pub fn link_wait(
         &mut self,
-        pair: (u16, Option<u16>),
+        pair: Pair,
         wait: u16,
         key: K,
         who: u8,

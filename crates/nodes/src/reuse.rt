@@ -1,8 +1,7 @@
 // Which nodes may be used again.
 ghost use Rattle.std.specs.Prelude.{◌≡◌, length};
-ghost use Rattle.nodes.specs.Reuse.{is_running, precedes as comes_before, awaited as is_awaited, reusable, highest, reusable_count};
+ghost use Rattle.nodes.specs.Reuse.{is_running, precedes as comes_before, awaited as is_awaited, reusable, reusable_at, highest, reusable_count};
 
-use crate::access::read;
 use crate::controller::{Controller, Phase};
 use crate::node::{Kind, Node};
 
@@ -11,11 +10,7 @@ impl Phase {
     pub fn is_running(self) -> bool
         ensures { result ≡ is_running self }
     {
-        match self {
-            Phase::Idle => false,
-            Phase::Finished { .. } => false,
-            _ => true,
-        }
+        !matches!(self, Phase::Idle | Phase::Finished { .. })
     }
 }
 
@@ -26,7 +21,7 @@ fn precedes<K>(controller: &Controller<K>, number: u32) -> bool
     controller.phase.is_running() && controller.ticket < number
 }
 
-// Whether some controller does.
+// Whether some controller does. A `for` over the controllers decides it: a rule of the project.
 fn is_awaited<K>(controllers: &[Controller<K>], number: u32) -> bool
     ensures { result ≡ is_awaited controllers.now number }
 {
@@ -53,33 +48,33 @@ pub fn is_reusable<K>(controllers: &[Controller<K>], at: usize, node: &Node<K>) 
     }
 }
 
+// Whether there is a node with this number that may be used again.
+fn is_reusable_at<K>(controllers: &[Controller<K>], nodes: &[Node<K>], at: usize) -> bool
+    ensures { result ≡ reusable_at controllers.now nodes.now at }
+{
+    nodes
+        .get(at)
+        .is_some_and(|node| is_reusable(controllers, at, node))
+}
+
 // The highest number below the bound of a node that may be used again.
-pub fn highest_reusable<K: Copy>(
+pub fn highest_reusable<K>(
     controllers: &[Controller<K>],
     nodes: &[Node<K>],
     bound: u16,
 ) -> Option<u16>
     ensures { result ≡ highest controllers.now nodes.now bound }
 {
-    for n in (0..bound).rev() {
-        if let Some(node) = read(nodes, usize::from(n)) {
-            if is_reusable(controllers, usize::from(n), &node) {
-                return Some(n);
-            }
-        }
-    }
-    None
+    (0..bound)
+        .rev()
+        .find(|n| is_reusable_at(controllers, nodes, usize::from(*n)))
 }
 
 // How many nodes may be used again.
-pub fn count_reusable<K: Copy>(controllers: &[Controller<K>], nodes: &[Node<K>]) -> usize
+pub fn count_reusable<K>(controllers: &[Controller<K>], nodes: &[Node<K>]) -> usize
     ensures { result ≡ reusable_count controllers.now nodes.now (length nodes.now) }
 {
-    let mut count = 0;
-    for (n, node) in nodes.iter().enumerate() {
-        if is_reusable(controllers, n, node) {
-            count += 1;
-        }
-    }
-    count
+    (0..nodes.len())
+        .filter(|n| is_reusable_at(controllers, nodes, *n))
+        .count()
 }

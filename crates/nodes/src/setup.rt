@@ -3,13 +3,12 @@ ghost use Rattle.std.specs.Prelude.{◌≡◌, map};
 ghost use Rattle.nodes.specs.Memory.{sizes_fit, cleared, fresh_nodes, fresh_controller, set_up, memory, after};
 ghost use Rattle.nodes.specs.declared.node.Kind.TheVariants.{Vacant};
 
-use crate::access::{put, read};
 use crate::controller::{Controller, Phase};
 use crate::node::{Kind, Node};
 use crate::refusal::Refusal;
 
 // The head of a board: the ticket that the next start takes.
-#[derive(Clone, Copy)]
+#[derive(Clone, Copy, Debug, PartialEq, Eq)]
 pub struct Header {
     pub next_ticket: u32,
 }
@@ -19,31 +18,14 @@ pub struct Header {
 pub fn fits(nodes: usize, controllers: usize, marks: usize) -> bool
     ensures { result ≡ sizes_fit nodes controllers marks }
 {
-    if 1 <= nodes && nodes <= 4096 && 1 <= controllers && controllers <= 16 {
-        marks == controllers * nodes
-    } else {
-        false
-    }
-}
-
-// A node with its key alone.
-fn clear<K: Copy>(node: Node<K>, kind: Kind) -> Node<K>
-    ensures { result ≡ cleared kind node }
-{
-    Node {
-        key: node.key,
-        kind,
-        next: None,
-        lock: None,
-        retired: None,
-    }
+    (1..=4096).contains(&nodes) && (1..=16).contains(&controllers) && marks == controllers * nodes
 }
 
 fn vacate<K: Copy>(nodes: &mut [Node<K>])
     ensures { nodes.new ≡ map (cleared Vacant) nodes.old }
 {
     for node in nodes.iter_mut() {
-        *node = clear(*node, Kind::Vacant);
+        *node = Node::new(node.key, Kind::Vacant);
     }
 }
 
@@ -52,8 +34,8 @@ fn set_up_nodes<K: Copy>(nodes: &mut [Node<K>])
     ensures { nodes.new ≡ fresh_nodes nodes.old }
 {
     vacate(nodes);
-    if let Some(node) = read(nodes, 0) {
-        put(nodes, 0, clear(node, Kind::Sentinel));
+    if let Some(node) = nodes.first_mut() {
+        node.kind = Kind::Sentinel;
     }
 }
 
@@ -63,10 +45,9 @@ fn set_up_controllers<K: Copy>(controllers: &mut [Controller<K>])
     for c in controllers.iter_mut() {
         *c = Controller {
             operation: None,
-            u: c.u,
-            v: c.v,
             ticket: 0,
             phase: Phase::Idle,
+            ..*c
         };
     }
 }
@@ -74,30 +55,37 @@ fn set_up_controllers<K: Copy>(controllers: &mut [Controller<K>])
 fn set_up_marks(marks: &mut [u8])
     ensures { marks.new ≡ map (λ _. 0) marks.old }
 {
-    for mark in marks.iter_mut() {
-        *mark = 0;
-    }
+    marks.fill(0);
 }
 
-// Sets a board up, with the ticket that the first start takes. Keys stay, all else is none.
-pub fn set_up_board<K: Copy>(
-    header: &mut Header,
-    nodes: &mut [Node<K>],
-    controllers: &mut [Controller<K>],
-    marks: &mut [u8],
-    first: u32,
-) -> Result<(), Refusal>
-    ensures { after result header.new nodes.new controllers.new marks.new ≡ set_up first (memory header.old nodes.old controllers.old marks.old) }
-{
-    if !fits(nodes.len(), controllers.len(), marks.len()) {
-        return Err(Refusal::Misfit);
+// The memory of a board, which the caller lends.
+#[derive(Drop)]
+pub struct Board<'a, K> {
+    pub header: &'a mut Header,
+    pub nodes: &'a mut [Node<K>],
+    pub controllers: &'a mut [Controller<K>],
+    pub marks: &'a mut [u8],
+}
+
+impl<K: Copy> Board<'_, K> {
+    // Sets the board up, with the ticket that the first start takes. Keys stay, all else is none.
+    pub fn set_up(&mut self, first: u32) -> Result<(), Refusal>
+        ensures after { after result self.new.header.now self.new.nodes.now self.new.controllers.now self.new.marks.now ≡ set_up first (memory self.old.header.now self.old.nodes.now self.old.controllers.now self.old.marks.now) }
+        ensures same_header { self.new.header.ghost_name ≡ self.old.header.ghost_name }
+        ensures same_nodes { self.new.nodes.ghost_name ≡ self.old.nodes.ghost_name }
+        ensures same_controllers { self.new.controllers.ghost_name ≡ self.old.controllers.ghost_name }
+        ensures same_marks { self.new.marks.ghost_name ≡ self.old.marks.ghost_name }
+    {
+        if !fits(self.nodes.len(), self.controllers.len(), self.marks.len()) {
+            return Err(Refusal::Misfit);
+        }
+        if first == 0 {
+            return Err(Refusal::BadFirst);
+        }
+        self.header.next_ticket = first;
+        set_up_nodes(self.nodes);
+        set_up_controllers(self.controllers);
+        set_up_marks(self.marks);
+        Ok(())
     }
-    if first == 0 {
-        return Err(Refusal::BadFirst);
-    }
-    header.next_ticket = first;
-    set_up_nodes(nodes);
-    set_up_controllers(controllers);
-    set_up_marks(marks);
-    Ok(())
 }

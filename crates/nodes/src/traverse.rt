@@ -4,7 +4,7 @@ ghost use Rattle.nodes.specs.Access.{or_damage};
 ghost use Rattle.nodes.specs.Chains.{in_chain, heads as is_head, chain_of, traversed};
 
 use crate::access::read;
-use crate::node::{Kind, Node};
+use crate::node::{Kind, Node, Pair};
 use crate::refusal::Damage;
 use order::key::{Key, Order};
 
@@ -16,10 +16,11 @@ pub enum Chain {
 }
 
 // A step goes on to a node, or it has arrived with a pair: the node stood on, and the next one.
+// Neither case is an absence or an error, so this is no `Option` and no `Result`.
 #[derive(Clone, Copy)]
 pub enum Traversed {
     Stand(u16),
-    Arrive((u16, Option<u16>)),
+    Arrive(Pair),
 }
 
 impl Chain {
@@ -66,18 +67,14 @@ pub fn traverse<K: Key>(
 ) -> Result<Traversed, Damage>
     ensures { result ≡ or_damage (traversed K.order nodes.now chain at wanted) }
 {
-    let Some(node) = read(nodes, usize::from(at)) else {
-        return Err(Damage);
-    };
+    let node = read(nodes, usize::from(at)).ok_or(Damage)?;
     if !chain.heads(node.kind) {
         return Err(Damage);
     }
     let Some(n) = node.next else {
         return Ok(Traversed::Arrive((at, None)));
     };
-    let Some(next) = read(nodes, usize::from(n)) else {
-        return Err(Damage);
-    };
+    let next = read(nodes, usize::from(n)).ok_or(Damage)?;
     if !chain.holds(next.kind) {
         return Err(Damage);
     }

@@ -1,16 +1,14 @@
-use Rattle.std.proofs.Common.{ℕ, cond, sym, ap, ◌∙◌, arith}
-use Rattle.nodes.proofs.Reusing.{counted_more}
+use Rattle.std.proofs.Common.{length, ◌∙◌, rules, tests}
+use Rattle.std.proofs.Math.Nat.{sub-zero}
+use Rattle.std.proofs.lemmas.Iterator.{YieldsList-from_range}
+use Rattle.std.proofs.lemmas.Iterator.Consumers.{count_from_yields_List, YieldsList-from_filter}
+use Rattle.nodes.specs.Reuse.{reusable_at}
+use Rattle.nodes.proofs.Reusing.{count_below}
 use Rattle.nodes.proofs.reuse.count_reusable.Goals as goal
-use Rattle.nodes.proofs.reuse.count_reusable.Goals.{then-is_reusable, else-is_reusable}
 
-pub loop-n-preserved : goal.loop-n-preserved
-loop-n-preserved g c =
-    let more = counted_more c.args.controllers.now c.args.nodes.now c.loop-n.n c.index-nodes-n.result c.loop-n-test.true c.index-nodes-n.is in
-    elim c.if-is_reusable.branch [
-      | then-is_reusable w ↦
-          let one = ap (λ b. cond {A = ℕ} b 1 0) (sym c.is_reusable.ensures ∙ w.if-is_reusable.true) in
-          (omega (arith, w.count-is), omega (arith, w.count-is, more, one, c.loop-n.invariant.1))
-      | else-is_reusable w ↦
-          let one = ap (λ b. cond {A = ℕ} b 1 0) (sym c.is_reusable.ensures ∙ w.if-is_reusable.false) in
-          (omega (arith, w.count-is), omega (arith, w.count-is, more, one, c.loop-n.invariant.1))
-    ]
+pub returns : goal.returns
+returns g c =
+    let cs = c.args.controllers.now in
+    let ns = c.args.nodes.now in
+    count_from_yields_List c.filter.result _ c.count.ensures.ran (YieldsList-from_filter _ (reusable_at cs ns) (YieldsList-from_range 0 (length ns) (length ns) (search rules) (sub-zero (length ns))) c.filter.ensures.closure (λ x r q k. search (rules, tests)))
+    ∙ count_below cs ns (length ns)
