@@ -70,8 +70,8 @@ module _ {K : Type 0} where
   unlock w p o ns =
       when (there ns (Some p.0) && (there ns p.1 && there ns o)) (Some (unlock_maybe w o (unlock_maybe w p.1 (unlock_one w p.0 ns))))
 
-  abbrev pub new_job : K → ℕ → ℕ → Option ℕ → Node K
-  new_job key generation sentinel next = record { key = key; kind = Job generation sentinel false; next = next; lock = None; retired = None }
+  abbrev pub new_job : K → JobRef → Option ℕ → Node K
+  new_job key j next = record { key = key; kind = Job j.generation j.sentinel false; next = next; lock = None; retired = None }
 
   abbrev pub new_sentinel : K → Node K
   new_sentinel key = new_node key Sentinel
@@ -80,10 +80,10 @@ module _ {K : Type 0} where
   new_wait key w v next = record { key = key; kind = Wait v.generation v.node Tentative; next = next; lock = Some w; retired = None }
 
   -- all three nodes must be there
-  abbrev pub link_job : ℕ × Option ℕ → ℕ → ℕ → K → ℕ → List (Node K) → Option (List (Node K))
-  link_job p j s key generation ns =
-      node_at ns p.0 >>= λ x. node_at ns j >>= λ _. node_at ns s >>= λ _.
-      Some (slice_set (slice_set (slice_set ns s (new_sentinel key)) j (new_job key generation s p.1)) p.0 (with_next x (Some j)))
+  abbrev pub link_job : ℕ × Option ℕ → JobRef → K → List (Node K) → Option (List (Node K))
+  link_job p j key ns =
+      node_at ns p.0 >>= λ x. node_at ns j.node >>= λ _. node_at ns j.sentinel >>= λ _.
+      Some (slice_set (slice_set (slice_set ns j.sentinel (new_sentinel key)) j.node (new_job key j p.1)) p.0 (with_next x (Some j.node)))
 
   abbrev pub link_wait : ℕ × Option ℕ → ℕ → K → ℕ → JobRef → List (Node K) → Option (List (Node K))
   link_wait p t key w v ns =

@@ -1,8 +1,10 @@
 -- The codes of the six operations. Assumes nothing.
 --     code_of o          the code that asks for an operation
 --     operation_of c     the operation that a code asks for; none outside 1 to 6
-use Rattle.std.specs.Prelude.{ℕ, cond, Some, None, Option, ◌==◌}
+--     decoded c          the same as a function's answer; the error holds the code
+use Rattle.std.specs.Prelude.{ℕ, cond, Some, None, Ok, Err, Option, Result, ◌==◌}
 use Rattle.nodes.specs.declared.controller.Operation.{Operation}
+use Rattle.nodes.specs.declared.controller.UnknownOperation.{UnknownOperation}
 use Rattle.nodes.specs.declared.controller.Operation.TheVariants.{AddJob, RemoveJob, HasJob, AddWait, RemoveWait, HasWait}
 
 abbrev pub code_of : Operation → ℕ
@@ -21,3 +23,6 @@ operation_of c =
     (cond (c == 4) (Some AddWait)
     (cond (c == 5) (Some RemoveWait)
     (cond (c == 6) (Some HasWait) None)))))
+
+abbrev pub decoded : ℕ → Result Operation UnknownOperation
+decoded c = elim (operation_of c) [ None ↦ Err (record { 0 = c }) | Some o ↦ Ok o ]

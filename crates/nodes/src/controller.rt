@@ -1,11 +1,11 @@
 // Controllers: what each is at, in cases that carry just what that phase needs.
 ghost use Rattle.std.specs.Prelude.{◌≡◌};
-ghost use Rattle.nodes.specs.Operations.{operation_of};
+ghost use Rattle.nodes.specs.Operations.{decoded};
 
 use crate::node::Pair;
 
 // What an operation answers.
-#[derive(Clone, Copy)]
+#[derive(Clone, Copy, Debug, PartialEq, Eq)]
 pub enum Answer {
     Yes,
     No,
@@ -14,7 +14,7 @@ pub enum Answer {
 }
 
 // The six operations. They are asked for by the codes 1 to 6.
-#[derive(Clone, Copy)]
+#[derive(Clone, Copy, Debug, PartialEq, Eq)]
 pub enum Operation {
     AddJob,
     RemoveJob,
@@ -24,25 +24,30 @@ pub enum Operation {
     HasWait,
 }
 
-impl Operation {
-    // The operation that a code asks for.
-    pub fn from_code(code: u8) -> Option<Operation>
-        ensures { result ≡ operation_of code }
-    {
+// A code that asks for no operation.
+#[derive(Clone, Copy, Debug, PartialEq, Eq)]
+pub struct UnknownOperation(pub u8);
+
+impl TryFrom<u8> for Operation {
+    type Error = UnknownOperation;
+
+    ghost try_from_gives = { λ code r. r ≡ decoded code };
+
+    fn try_from(code: u8) -> Result<Self, UnknownOperation> {
         match code {
-            1 => Some(Operation::AddJob),
-            2 => Some(Operation::RemoveJob),
-            3 => Some(Operation::HasJob),
-            4 => Some(Operation::AddWait),
-            5 => Some(Operation::RemoveWait),
-            6 => Some(Operation::HasWait),
-            _ => None,
+            1 => Ok(Operation::AddJob),
+            2 => Ok(Operation::RemoveJob),
+            3 => Ok(Operation::HasJob),
+            4 => Ok(Operation::AddWait),
+            5 => Ok(Operation::RemoveWait),
+            6 => Ok(Operation::HasWait),
+            _ => Err(UnknownOperation(code)),
         }
     }
 }
 
 // A job that an operation has found: its node, its generation and its sentinel.
-#[derive(Clone, Copy)]
+#[derive(Clone, Copy, Debug, PartialEq, Eq)]
 pub struct JobRef {
     pub node: u16,
     pub generation: u32,
@@ -50,7 +55,7 @@ pub struct JobRef {
 }
 
 // What is to be done about a wait, once both of its jobs are found.
-#[derive(Clone, Copy)]
+#[derive(Clone, Copy, Debug, PartialEq, Eq)]
 pub enum WaitAction {
     Add,
     Remove,
@@ -59,7 +64,7 @@ pub enum WaitAction {
 
 // What a traversal without locks is for: whether a job is in, the first job of a wait, the second
 // one, or whether the wait stands in the chain of the first.
-#[derive(Clone, Copy)]
+#[derive(Clone, Copy, Debug, PartialEq, Eq)]
 pub enum Goal {
     HasJob,
     First { action: WaitAction },
@@ -70,7 +75,7 @@ pub enum Goal {
 // What is to be done with a pair of neighbouring nodes, once it is located and locked. `Empty` takes
 // the first wait out of the chain of a removed job; `Sweep` takes the wait to a removed job out of the
 // chain of the job at `place`, which hangs from `sentinel`.
-#[derive(Clone, Copy)]
+#[derive(Clone, Copy, Debug, PartialEq, Eq)]
 pub enum Edit {
     AddJob,
     RemoveJob,
@@ -93,7 +98,7 @@ pub enum Edit {
 }
 
 // How an operation goes on when it has unlocked its nodes.
-#[derive(Clone, Copy)]
+#[derive(Clone, Copy, Debug, PartialEq, Eq)]
 pub enum Then {
     Finish { answer: Answer },
     Again { edit: Edit },
@@ -102,7 +107,7 @@ pub enum Then {
 
 // Where a controller's operation is. `at` and `place` are the node it stands on, where it explores
 // none while it stands in no chain; a pair is a node and the next one, if there is one.
-#[derive(Clone, Copy)]
+#[derive(Clone, Copy, Debug, PartialEq, Eq)]
 pub enum Phase {
     Idle,
     Find {

@@ -13,16 +13,19 @@ use crate::traverse::Chain;
 pub fn link_job<K: Copy>(
     nodes: &mut [Node<K>],
     pair: Pair,
-    job: u16,
-    sentinel: u16,
+    job: JobRef,
     key: K,
-    generation: u32,
 ) -> Result<(), Damage>
-    ensures { (result, nodes.new) ≡ written nodes.old (link_job pair job sentinel key generation nodes.old) }
+    ensures { (result, nodes.new) ≡ written nodes.old (link_job pair job key nodes.old) }
 {
+    let JobRef {
+        node,
+        generation,
+        sentinel,
+    } = job;
     let (first, next) = pair;
     let before = read(nodes, usize::from(first)).ok_or(Damage)?;
-    read(nodes, usize::from(job)).ok_or(Damage)?;
+    read(nodes, usize::from(node)).ok_or(Damage)?;
     read(nodes, usize::from(sentinel)).ok_or(Damage)?;
     put(nodes, usize::from(sentinel), Node::new(key, Kind::Sentinel));
     let kind = Kind::Job {
@@ -32,20 +35,14 @@ pub fn link_job<K: Copy>(
     };
     put(
         nodes,
-        usize::from(job),
+        usize::from(node),
         Node {
             next,
             ..Node::new(key, kind)
         },
     );
-    put(
-        nodes,
-        usize::from(first),
-        Node {
-            next: Some(job),
-            ..before
-        },
-    );
+    let next = Some(node);
+    put(nodes, usize::from(first), Node { next, ..before });
     Ok(())
 }
 

@@ -1,5 +1,5 @@
 // The nodes of a board as a pool: its methods hand the slice to the functions that find nodes to be
-// used again, link and unlink.
+// used again, link and unlink. That it is a struct over the slice is a rule of the project.
 ghost use Rattle.std.specs.Prelude.{◌≡◌, length};
 ghost use Rattle.nodes.specs.Effects.{written, link_job, link_wait, unlink as unlinked};
 ghost use Rattle.nodes.specs.Reuse.{highest, reusable_count};
@@ -30,18 +30,11 @@ impl<K: Copy> Pool<'_, K> {
     }
 
     // Links a new job between a pair of neighbours, with a sentinel of its own.
-    pub fn link_job(
-        &mut self,
-        pair: Pair,
-        job: u16,
-        sentinel: u16,
-        key: K,
-        generation: u32,
-    ) -> Result<(), Damage>
-        ensures after { (result, self.new.nodes.now) ≡ written self.old.nodes.now (link_job pair job sentinel key generation self.old.nodes.now) }
+    pub fn link_job(&mut self, pair: Pair, job: JobRef, key: K) -> Result<(), Damage>
+        ensures after { (result, self.new.nodes.now) ≡ written self.old.nodes.now (link_job pair job key self.old.nodes.now) }
         ensures same { self.new.nodes.ghost_name ≡ self.old.nodes.ghost_name }
     {
-        links::link_job(self.nodes, pair, job, sentinel, key, generation)
+        links::link_job(self.nodes, pair, job, key)
     }
 
     // Links a new tentative wait between a pair of neighbours, locked by its maker.

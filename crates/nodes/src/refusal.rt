@@ -1,12 +1,13 @@
 // Refusals, and the fault of the layer of nodes.
 ghost use Rattle.std.specs.Prelude.{◌≡◌};
 ghost use Rattle.nodes.specs.Refusals.{refusal_number};
-ghost use Rattle.nodes.specs.declared.refusal.Refusal.TheVariants.{Damage as Damaged, NoPlace as Unplaced};
+ghost use Rattle.nodes.specs.declared.refusal.Refusal.TheVariants.{Damage as Damaged, NoPlace as Unplaced, Unknown as NotKnown};
 
+use crate::controller::UnknownOperation;
 use order::address::making::NoPlace as Displaced;
 
 // A node number not below the number of nodes, or a node of a kind that no rule gives there.
-#[derive(Clone, Copy)]
+#[derive(Clone, Copy, Debug, PartialEq, Eq)]
 pub struct Damage;
 
 // Why a call was refused. A refusal leaves all memory as it was.
@@ -37,6 +38,14 @@ impl From<Displaced> for Refusal {
 
     fn from(refusal: Displaced) -> Refusal {
         Refusal::NoPlace(refusal)
+    }
+}
+
+impl From<UnknownOperation> for Refusal {
+    ghost from_gives = { λ _ r. r ≡ NotKnown };
+
+    fn from(_code: UnknownOperation) -> Refusal {
+        Self::Unknown
     }
 }
 

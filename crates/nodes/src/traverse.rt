@@ -9,7 +9,7 @@ use crate::refusal::Damage;
 use order::key::{Key, Order};
 
 // Which chain: that of the jobs, or one of waits.
-#[derive(Clone, Copy)]
+#[derive(Clone, Copy, Debug, PartialEq, Eq)]
 pub enum Chain {
     Jobs,
     Waits,
@@ -17,7 +17,7 @@ pub enum Chain {
 
 // A step goes on to a node, or it has arrived with a pair: the node stood on, and the next one.
 // Neither case is an absence or an error, so this is no `Option` and no `Result`.
-#[derive(Clone, Copy)]
+#[derive(Clone, Copy, Debug, PartialEq, Eq)]
 pub enum Traversed {
     Stand(u16),
     Arrive(Pair),
