@@ -1,12 +1,12 @@
 -- A run of calls on a fresh board is a ledger, if each of its steps makes one of a ledger's moves; so its history exists.
-use Rattle.std.proofs.Common.{◌≡◌, ℕ, zero, suc, true, ◌⊎◌, List, [], ◌∷◌, map, length, Some, None, Option, Result, sym, refl, ap, ◌∙◌, subst, inl, inr, true≢false, arith}
+use Rattle.std.proofs.Common.{◌≡◌, ℕ, zero, suc, true, ◌⊎◌, List, [], ◌∷◌, map, length, Some, None, Ok, Err, Option, Result, sym, refl, ap, ◌∙◌, subst, inl, inr, true≢false, arith}
 use Rattle.std.specs.List.{slice_get}
 use Rattle.std.specs.Result.{result_ok}
 use Rattle.std.proofs.lemmas.Bool.{cases_eq}
 use Rattle.order.specs.declared.key.Order.{Order}
 use Rattle.nodes.specs.declared.call.Call.{Call}
 use Rattle.nodes.specs.declared.call.Call.TheVariants.{Start, Step, Collect, Count}
-use Rattle.nodes.specs.declared.call.Outcome.TheVariants.{Started, Stepped, Collected, Refused}
+use Rattle.nodes.specs.declared.call.Outcome.TheVariants.{Started, Stepped, Collected}
 use Rattle.nodes.specs.declared.call.StepOutcome.{StepOutcome}
 use Rattle.nodes.specs.declared.call.StepOutcome as outcomes
 use Rattle.nodes.specs.declared.call.StepOutcome.TheVariants.{Moved, Waiting}
@@ -28,7 +28,7 @@ use Rattle.nodes.specs.Operations.{operation_of}
 use Rattle.nodes.specs.Reuse.{is_running}
 use Rattle.rules.specs.Calls as calls
 use Rattle.rules.specs.Calls.{answer_of, with_phase, with_controller, begin, first_phase}
-use Rattle.rules.specs.Runs.{called, or_refused}
+use Rattle.rules.specs.Runs.{called, as_outcome}
 use Rattle.law.specs.History.{Same, empty, Request, Run, Event}
 use Rattle.law.specs.History.{Event.started, Event.collected, Event.other}
 use Rattle.law.specs.Ledger.{Stage, Move, Unchanged, Others, Ledger}
@@ -141,7 +141,7 @@ module _ {K : Type 0} where
   idle_stage c None = refl
   idle_stage c (Some o) = refl
 
-  refused_start : (w : ℕ) (o : Option Operation) (u v : K) (r : Refusal) → start_event w o u v (Refused r) ≡ other
+  refused_start : (w : ℕ) (o : Option Operation) (u v : K) (r : Refusal) → start_event w o u v (Err r) ≡ other
   refused_start w None u v r = refl
   refused_start w (Some o) u v r = refl
 
@@ -223,14 +223,14 @@ module _ {K : Type 0} (order : K → K → Order) (m : Memory K) (cs : List (Cal
   start_move n w code u v q = by (start_view (M n) w code u v)
     where
       event : (x : Result (Unit {0}) Refusal × Memory K) → Event K
-      event x = start_event w (operation_of code) u v (or_refused (λ _. Started) x.0)
+      event x = start_event w (operation_of code) u v (as_outcome (λ _. Started) x.0)
 
       by : Refuses (M n) (calls.started w code u v (M n)) ⊎ Starts (M n) w code u v → Move r st n (event_of (Start w code u v) (called order (Start w code u v) (M n)).0)
       by (inl (e, p)) = as_event n _ other (ap event p ∙ refused_start w (operation_of code) u v e) (same_memory n (next_is n _ q ∙ ap (λ x. x.1) p))
       by (inr (o, c, at, is, p)) =
           let next = next_is n _ q ∙ ap (λ x. x.1) p in
           let request : Request K = record { operation = o; u = u; v = v } in
-          as_event n _ (started w request) (ap event p ∙ ap (λ a. start_event w a u v Started) at) (
+          as_event n _ (started w request) (ap event p ∙ ap (λ a. start_event w a u v (Ok Started)) at) (
             same_nodes n (begin (M n) w o u v) next refl,
             other_stages n w (begin (M n) w o u v) next (λ d ne. nth_set_other (M n).controllers w d _ ne),
             ap (λ (x : Memory K). stage_at x w) next ∙ ap stage_of (nth_set_same (M n).controllers w _ c is) ∙ first_stage request o,
@@ -240,7 +240,7 @@ module _ {K : Type 0} (order : K → K → Order) (m : Memory K) (cs : List (Cal
   step_move mv n w q = by (step_view (M n) order w)
     where
       event : (x : Result StepOutcome Refusal × Memory K) → Event K
-      event x = step_event w (or_refused Stepped x.0)
+      event x = step_event w (as_outcome Stepped x.0)
 
       told : (s : StepOutcome) → Others r st n w → Goes order m cs n w s → Move r st n (moved_event w s)
       told Moved others g = (others, g)
@@ -251,14 +251,14 @@ module _ {K : Type 0} (order : K → K → Order) (m : Memory K) (cs : List (Cal
       by (inl (e, p)) = as_event n _ other (ap event p) (same_memory n (next_is n _ q ∙ ap (λ x. x.1) p))
       by (inr (s, x, p, t)) =
           let next = next_is n _ q ∙ ap (λ y. y.1) p in
-          let out : outcome_at order m cs n ≡ Stepped s = ap (λ k. (called order k (M n)).0) q ∙ ap (λ y. or_refused Stepped y.0) p in
+          let out : outcome_at order m cs n ≡ Ok (Stepped s) = ap (λ k. (called order k (M n)).0) q ∙ ap (λ y. as_outcome Stepped y.0) p in
           as_event n _ (moved_event w s) (ap event p) (told s (other_stages n w x next t.others) (mv.steps n w s q out))
 
   collect_move : (n w : ℕ) → AllNamed (M n) → call_at cs n ≡ Collect w → Move r st n (event_of (Collect w) (called order (Collect w) (M n)).0)
   collect_move n w named q = by (collect_view (M n) w)
     where
       event : (x : Result Answer Refusal × Memory K) → Event K
-      event x = collect_event w (or_refused Collected x.0)
+      event x = collect_event w (as_outcome Collected x.0)
 
       by : Refuses (M n) (calls.collected w (M n)) ⊎ Collects (M n) w → Move r st n (event_of (Collect w) (called order (Collect w) (M n)).0)
       by (inl (e, p)) = as_event n _ other (ap event p) (same_memory n (next_is n _ q ∙ ap (λ x. x.1) p))

@@ -2,7 +2,7 @@
 --     Goes n w s              what a step of controller w, call n + 1, with the outcome s, does to its stage
 --     Moves m cs              the sizes stay, and every step of the run that is taken makes one of the moves of a ledger
 --     HistoryFromMoves        if so, on any fresh board and for any list of calls, the history exists
-use Rattle.std.specs.Prelude.{◌≡◌, ℕ, suc, true, List, length}
+use Rattle.std.specs.Prelude.{◌≡◌, ℕ, suc, true, List, length, Ok}
 use Rattle.order.specs.declared.key.Order.{Order}
 use Rattle.nodes.specs.declared.call.Call.{Call}
 use Rattle.nodes.specs.declared.call.Call.TheVariants.{Step}
@@ -27,7 +27,7 @@ module _ {K : Type 0} (order : K → K → Order) where
 
     pub record Moves : Type 0 where
       pub fit : (n : ℕ) → fits (memory_at order m cs n) ≡ true
-      pub steps : (n w : ℕ) (s : StepOutcome) → call_at cs n ≡ Step w → outcome_at order m cs n ≡ Stepped s → Goes n w s
+      pub steps : (n w : ℕ) (s : StepOutcome) → call_at cs n ≡ Step w → outcome_at order m cs n ≡ Ok (Stepped s) → Goes n w s
 
   abbrev pub HistoryFromMoves : Type 0
   HistoryFromMoves = (first : ℕ) (m : Memory K) (cs : List (Call K)) → Moves (fresh first m) cs → Linearizes (run_of order (fresh first m) cs) (length cs)

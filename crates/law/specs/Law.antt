@@ -11,14 +11,14 @@
 --     ByTable G f q a         a is the answer that the table gives to the request q, in the graph G with f nodes free
 --     Law                     the promises, for one kind, board and list of calls
 --     Lawful                  all of them, for a kind with its laws, every memory that fits, first ticket and list of calls
-use Rattle.std.specs.Prelude.{◌≡◌, ℕ, zero, suc, ◌+◌, ◌*◌, ◌<◌, ◌≤◌, true, false, ◌⊎◌, List, [], ◌∷◌, length, Some, None, Ok, ◌==◌, ◌≢◌, nat_le}
+use Rattle.std.specs.Prelude.{◌≡◌, ℕ, zero, suc, ◌+◌, ◌*◌, ◌<◌, ◌≤◌, true, false, ◌⊎◌, List, [], ◌∷◌, length, Some, None, Ok, Err, ◌==◌, ◌≢◌, nat_le}
 use Rattle.std.specs.List.{slice_get}
 use Rattle.order.specs.declared.key.Order.{Order}
 use Rattle.order.specs.Lists.{rising}
 use Rattle.order.specs.Orders.{OrderLaws}
 use Rattle.nodes.specs.declared.call.Call.{Call}
 use Rattle.nodes.specs.declared.call.Call.TheVariants.{Step}
-use Rattle.nodes.specs.declared.call.Outcome.TheVariants.{Stepped, Refused}
+use Rattle.nodes.specs.declared.call.Outcome.TheVariants.{Stepped}
 use Rattle.nodes.specs.declared.call.StepOutcome.TheVariants.{Moved, Waiting, Finished}
 use Rattle.nodes.specs.declared.controller.Answer.{Answer}
 use Rattle.nodes.specs.declared.controller.Answer.TheVariants.{Yes, No, Circle, Full}
@@ -138,7 +138,7 @@ module _ {K : Type 0} where
     -- soundness, after every call
     pub standing_waits_close_no_circle : (n : ℕ) → n ≤ length cs → NoCircle (memory_at order m cs n).nodes
     pub keys_rise_along_chains : (n : ℕ) → n ≤ length cs → KeysRise order (memory_at order m cs n).nodes
-    pub no_outcome_is_damage : (n : ℕ) → n < length cs → outcome_at order m cs n ≢ Refused Damage
+    pub no_outcome_is_damage : (n : ℕ) → n < length cs → outcome_at order m cs n ≢ Err Damage
     pub free_count_is_exact : (n : ℕ) → n ≤ length cs → nothing_runs (memory_at order m cs n) → CountExact (memory_at order m cs n)
     -- history
     pub history_explains_the_run : (h : List (Entry K)) × History (run_of order m cs) (length cs) h
@@ -152,7 +152,7 @@ module _ {K : Type 0} where
         (v : ℕ) × runs_at (memory_at order m cs n) v × ((calls.stepped order v (memory_at order m cs n)).0 ≢ Ok Waiting)
     pub lookups_never_wait :
         (n w : ℕ) (o : Op K) → n < length cs → call_at cs n ≡ Step w → latest (run_of order m cs) w n ≡ Some o → IsLookup o.request.operation →
-        outcome_at order m cs n ≢ Stepped Waiting
+        outcome_at order m cs n ≢ Ok (Stepped Waiting)
     pub lookups_finish_in_time :
         (n : ℕ) (o : Op K) → n ≤ length cs → IsLookup o.request.operation →
         (Running (run_of order m cs) n o → steps_since (run_of order m cs) o.by o.start n < 3 * length m.nodes)

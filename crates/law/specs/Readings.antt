@@ -9,14 +9,14 @@
 --     explores m w u v       controller w explores from the v to the u that it found
 --     stage_at m w           how far the operation of controller w is
 --     run_of m cs            the run of a list of calls, as the history reads it
-use Rattle.std.specs.Prelude.{◌≡◌, ℕ, zero, suc, ◌⊎◌, List, [], ◌∷◌, length, Some, None, Option}
+use Rattle.std.specs.Prelude.{◌≡◌, ℕ, zero, suc, ◌⊎◌, List, [], ◌∷◌, length, Some, None, Ok, Err, Option, Result}
 use Rattle.std.specs.List.{slice_get}
 use Rattle.std.specs.Result.{result_ok}
 use Rattle.order.specs.declared.key.Order.{Order}
 use Rattle.nodes.specs.declared.call.Call.{Call}
 use Rattle.nodes.specs.declared.call.Call.TheVariants.{Start, Step, Collect, Count}
 use Rattle.nodes.specs.declared.call.Outcome.{Outcome}
-use Rattle.nodes.specs.declared.call.Outcome.TheVariants.{Started, Stepped, Collected, Counted, Refused}
+use Rattle.nodes.specs.declared.call.Outcome.TheVariants.{Started, Stepped, Collected, Counted}
 use Rattle.nodes.specs.declared.call.StepOutcome.{StepOutcome}
 use Rattle.nodes.specs.declared.call.StepOutcome as outcomes
 use Rattle.nodes.specs.declared.call.StepOutcome.TheVariants.{Moved, Waiting}
@@ -31,6 +31,7 @@ use Rattle.nodes.specs.declared.controller.Then.{Then}
 use Rattle.nodes.specs.declared.controller.Then as thens
 use Rattle.nodes.specs.declared.controller.Then.TheVariants.{Finish, Again}
 use Rattle.nodes.specs.declared.node.Node.{Node}
+use Rattle.nodes.specs.declared.refusal.Refusal.{Refusal}
 use Rattle.nodes.specs.declared.node.WaitState.TheVariants.{Tentative, Committed}
 use Rattle.nodes.specs.Memory.{Memory}
 use Rattle.nodes.specs.Operations.{operation_of}
@@ -49,34 +50,34 @@ In x (y ∷ l) = (x ≡ y) ⊎ In x l
 -- ---- what a call did
 
 module _ {K : Type 0} where
-  abbrev pub start_event : ℕ → Option Operation → K → K → Outcome → Event K
+  abbrev pub start_event : ℕ → Option Operation → K → K → Result Outcome Refusal → Event K
   start_event w None u v o = other
-  start_event w (Some p) u v Started = started w (record { operation = p; u = u; v = v })
-  start_event w (Some p) u v (Stepped s) = other
-  start_event w (Some p) u v (Collected a) = other
-  start_event w (Some p) u v (Counted j n f) = other
-  start_event w (Some p) u v (Refused r) = other
+  start_event w (Some p) u v (Ok Started) = started w (record { operation = p; u = u; v = v })
+  start_event w (Some p) u v (Ok (Stepped s)) = other
+  start_event w (Some p) u v (Ok (Collected a)) = other
+  start_event w (Some p) u v (Ok (Counted j n f)) = other
+  start_event w (Some p) u v (Err r) = other
 
   abbrev pub moved_event : ℕ → StepOutcome → Event K
   moved_event w Moved = stepped w
   moved_event w Waiting = stepped w
   moved_event w outcomes.TheVariants.Finished = finished w
 
-  abbrev pub step_event : ℕ → Outcome → Event K
-  step_event w Started = other
-  step_event w (Stepped s) = moved_event w s
-  step_event w (Collected a) = other
-  step_event w (Counted j n f) = other
-  step_event w (Refused r) = other
+  abbrev pub step_event : ℕ → Result Outcome Refusal → Event K
+  step_event w (Ok Started) = other
+  step_event w (Ok (Stepped s)) = moved_event w s
+  step_event w (Ok (Collected a)) = other
+  step_event w (Ok (Counted j n f)) = other
+  step_event w (Err r) = other
 
-  abbrev pub collect_event : ℕ → Outcome → Event K
-  collect_event w Started = other
-  collect_event w (Stepped s) = other
-  collect_event w (Collected a) = collected w a
-  collect_event w (Counted j n f) = other
-  collect_event w (Refused r) = other
+  abbrev pub collect_event : ℕ → Result Outcome Refusal → Event K
+  collect_event w (Ok Started) = other
+  collect_event w (Ok (Stepped s)) = other
+  collect_event w (Ok (Collected a)) = collected w a
+  collect_event w (Ok (Counted j n f)) = other
+  collect_event w (Err r) = other
 
-  abbrev pub event_of : Call K → Outcome → Event K
+  abbrev pub event_of : Call K → Result Outcome Refusal → Event K
   event_of (Start w code u v) o = start_event w (operation_of code) u v o
   event_of (Step w) o = step_event w o
   event_of (Collect w) o = collect_event w o
@@ -163,7 +164,7 @@ module _ {K : Type 0} where
     memory_at m cs zero = m
     memory_at m cs (suc i) = (called order (call_at cs i) (memory_at m cs i)).1
 
-    abbrev pub outcome_at : Memory K → List (Call K) → ℕ → Outcome
+    abbrev pub outcome_at : Memory K → List (Call K) → ℕ → Result Outcome Refusal
     outcome_at m cs i = (called order (call_at cs i) (memory_at m cs i)).0
 
     abbrev pub event_at : Memory K → List (Call K) → ℕ → Event K

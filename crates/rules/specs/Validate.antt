@@ -52,7 +52,7 @@ module _ {K : Type 0} where
   link_new_job cs ns c p None = over p Full
   link_new_job cs ns c p (Some j) = elim (highest cs ns j) [
     | None ↦ over p Full
-    | Some s ↦ takes (LinkJob p j s c.u c.ticket) (Unlock p None (Finish Yes))
+    | Some s ↦ takes (LinkJob p (record { node = j; generation = c.ticket; sentinel = s }) c.u) (Unlock p None (Finish Yes))
   ]
 
   -- the highest node that may be used again becomes a tentative wait, and the exploration begins at v

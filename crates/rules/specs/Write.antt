@@ -30,7 +30,7 @@ module _ {K : Type 0} where
   applied w n Nothing ns = Some ns
   applied w n (Lock i) ns = lock w i ns
   applied w n (Unlock p o) ns = unlock w p o ns
-  applied w n (LinkJob p j s key g) ns = link_job p j s key g ns
+  applied w n (LinkJob p j key) ns = link_job p j key ns
   applied w n (LinkWait p t key v) ns = link_wait p t key w v ns
   applied w n (MarkRemoved i) ns = mark_removed i ns
   applied w n (Commit i) ns = commit i ns

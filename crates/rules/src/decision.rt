@@ -1,5 +1,6 @@
 // What a step decides, before anything is written.
 use nodes::controller::{JobRef, Phase};
+use nodes::node::Pair;
 
 // What a step writes to nodes. There are only these effects.
 #[derive(Clone, Copy)]
@@ -9,18 +10,16 @@ pub enum Effect<K> {
         node: u16,
     },
     Unlock {
-        pair: (u16, Option<u16>),
+        pair: Pair,
         other: Option<u16>,
     },
     LinkJob {
-        pair: (u16, Option<u16>),
-        job: u16,
-        sentinel: u16,
+        pair: Pair,
+        job: JobRef,
         key: K,
-        generation: u32,
     },
     LinkWait {
-        pair: (u16, Option<u16>),
+        pair: Pair,
         wait: u16,
         key: K,
         to: JobRef,
