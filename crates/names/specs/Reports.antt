@@ -10,11 +10,11 @@
 --     Reported n ls bs          bs tells of the names on the lines from index n on, in the kind's order
 --     Tells text bs           bs tells of the names that text lists, or what is wrong with its first line
 use Rattle.std.specs.Prelude.{◌≡◌, ℕ, ◌+◌, ◌-◌, Bool, true, false, cond, List, [], ◌∷◌, ◌++◌, length, drop, Some, None, codes, decimal, Option, Result}
-use Rattle.order.specs.declared.key.Order.{Order}
-use Rattle.order.specs.declared.key.Order.TheVariants.{Before, Same, After}
+use Rattle.std.specs.declared.cmp.Ordering.{Ordering}
+use Rattle.std.specs.declared.cmp.Ordering.TheVariants.{Less, Equal, Greater}
 use Rattle.order.specs.Addresses.{refusal_number}
 use Rattle.order.specs.Lists.{Arranged}
-use Rattle.order.specs.Orders.{numbered}
+use Rattle.std.specs.Ordering.{nat_cmp}
 use Rattle.order.specs.Rows.{row_order}
 use Rattle.names.specs.declared.heading.Heading.{Heading}
 use Rattle.names.specs.declared.heading.Heading.TheVariants.{Missing, Unknown, Numbers, Addresses}
@@ -46,10 +46,10 @@ abbrev pub fault_lines : List ℕ → List LineFault → List ℕ
 fault_lines expected [] = []
 fault_lines expected (f ∷ fs) = fault_line expected f ++ fault_lines expected fs
 
-abbrev pub is_same : Order → Bool
-is_same Before = false
-is_same Same = true
-is_same After = false
+abbrev pub is_same : Ordering → Bool
+is_same Less = false
+is_same Equal = true
+is_same Greater = false
 
 abbrev pub mark : Bool → List ℕ
 mark double = cond double (codes " double") []
@@ -61,7 +61,7 @@ summary ns ds rs us =
 abbrev pub name_line : {K : Type 0} → (K → List ℕ) → ℕ → Bool → K → List ℕ
 name_line written n double k = decimal n ++ (codes ": " ++ (written k ++ (mark double ++ codes "\n")))
 
-module _ {K : Type 0} (order : K → K → Order) where
+module _ {K : Type 0} (order : K → K → Ordering) where
   abbrev pub repeats : Option K → K → Bool
   repeats None k = false
   repeats (Some p) k = is_same (order p k)
@@ -86,7 +86,7 @@ module _ {K : Type 0} (order : K → K → Order) where
 abbrev pub TellsUnder : Heading → ℕ → List (List ℕ) → List ℕ → Type 0
 TellsUnder Missing n ls bs = bs ≡ codes "The first line is missing: it says numbers or addresses.\n"
 TellsUnder Unknown n ls bs = bs ≡ codes "The first line is unknown: it says numbers or addresses.\n"
-TellsUnder Numbers n ls bs = Reported numbered number_named number_written number_expected n ls bs
+TellsUnder Numbers n ls bs = Reported nat_cmp number_named number_written number_expected n ls bs
 TellsUnder Addresses n ls bs = Reported row_order row_named row_written row_expected n ls bs
 
 abbrev pub Tells : List ℕ → List ℕ → Type 0

@@ -6,10 +6,11 @@ use crate::heading::{Heading, find_heading};
 use crate::listing::{LineFault, read_lines};
 use crate::name::{Fault, Name};
 use crate::text::{Separator, split};
-use order::key::{Key, Order};
+use order::key::Key;
 use order::lists::arrange;
 use order::row::Row;
 use std::alloc::{AllocError, Global};
+use std::cmp::Ordering;
 
 // Whether a key is the one in front of it once more.
 fn repeats<K: Key>(previous: Option<K>, key: K) -> bool
@@ -18,9 +19,9 @@ fn repeats<K: Key>(previous: Option<K>, key: K) -> bool
     match previous {
         None => false,
         Some(previous) => match previous.compare(key) {
-            Order::Before => false,
-            Order::Same => true,
-            Order::After => false,
+            Ordering::Less => false,
+            Ordering::Equal => true,
+            Ordering::Greater => false,
         },
     }
 }

@@ -157,7 +157,7 @@ pub enum Phase {
 }
 
 // A controller: the operation that it was last given, its two keys, its ticket and its phase.
-#[derive(Clone, Copy)]
+#[derive(Clone, Copy, Debug, PartialEq, Eq)]
 pub struct Controller<K> {
     pub operation: Option<Operation>,
     pub u: K,

@@ -84,7 +84,7 @@ impl Kind {
 
 // A node: its key (a wait's is its target's), its kind, the next node of its chain, the controller
 // that holds its lock, and, once it has left its chain, the next ticket at that moment.
-#[derive(Clone, Copy)]
+#[derive(Clone, Copy, Debug, PartialEq, Eq)]
 pub struct Node<K> {
     pub key: K,
     pub kind: Kind,

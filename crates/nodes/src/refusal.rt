@@ -11,7 +11,7 @@ use order::address::making::NoPlace as Displaced;
 pub struct Damage;
 
 // Why a call was refused. A refusal leaves all memory as it was.
-#[derive(Clone, Copy)]
+#[derive(Clone, Copy, Debug, PartialEq, Eq)]
 pub enum Refusal {
     Misfit,
     BadFirst,

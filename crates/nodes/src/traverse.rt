@@ -6,7 +6,7 @@ ghost use Rattle.nodes.specs.Chains.{in_chain, heads as is_head, chain_of, trave
 use crate::access::read;
 use crate::node::{Kind, Node, Pair};
 use crate::refusal::Damage;
-use order::key::{Key, Order};
+use order::key::Key;
 
 // Which chain: that of the jobs, or one of waits.
 #[derive(Clone, Copy, Debug, PartialEq, Eq)]
@@ -78,9 +78,9 @@ pub fn traverse<K: Key>(
     if !chain.holds(next.kind) {
         return Err(Damage);
     }
-    match next.key.compare(wanted) {
-        Order::Before => Ok(Traversed::Stand(n)),
-        Order::Same => Ok(Traversed::Arrive((at, Some(n)))),
-        Order::After => Ok(Traversed::Arrive((at, Some(n)))),
+    if next.key.compare(wanted).is_lt() {
+        Ok(Traversed::Stand(n))
+    } else {
+        Ok(Traversed::Arrive((at, Some(n))))
     }
 }

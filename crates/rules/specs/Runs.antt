@@ -4,7 +4,7 @@
 --     last_of m ps        the memory after the last call
 use Rattle.std.specs.Prelude.{List, [], ◌∷◌, Result}
 use Rattle.std.specs.Result.{result_map_both}
-use Rattle.order.specs.declared.key.Order.{Order}
+use Rattle.std.specs.declared.cmp.Ordering.{Ordering}
 use Rattle.nodes.specs.declared.call.Call.{Call}
 use Rattle.nodes.specs.declared.call.Call.TheVariants.{Start, Step, Collect, Count}
 use Rattle.nodes.specs.declared.call.Outcome.{Outcome}
@@ -17,7 +17,7 @@ use Rattle.rules.specs.Calls.{ResultOf, started, stepped, collected, counted}
 abbrev pub as_outcome : {R : Type 0} → (R → Outcome) → Result R Refusal → Result Outcome Refusal
 as_outcome f r = result_map_both f (λ e. e) r
 
-module _ {K : Type 0} (order : K → K → Order) where
+module _ {K : Type 0} (order : K → K → Ordering) where
   abbrev pub called : Call K → Memory K → ResultOf Outcome K
   called (Start w code u v) m = let r = started w code u v m in (as_outcome (λ _. Started) r.0, r.1)
   called (Step w) m = let r = stepped order w m in (as_outcome Stepped r.0, r.1)
