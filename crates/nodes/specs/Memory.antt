@@ -12,6 +12,7 @@ use Rattle.nodes.specs.declared.node.Kind.{Kind}
 use Rattle.nodes.specs.declared.node.Kind.TheVariants.{Vacant, Sentinel}
 use Rattle.nodes.specs.declared.refusal.Refusal.{Refusal}
 use Rattle.nodes.specs.declared.refusal.Refusal.TheVariants.{Misfit, BadFirst}
+use Rattle.nodes.specs.declared.setup.Board.{Board}
 use Rattle.nodes.specs.declared.setup.Header.{Header}
 use Rattle.nodes.specs.Access.{new_node}
 
@@ -52,9 +53,9 @@ module _ {K : Type 0} where
     | true ↦ elim (first == 0) [ true ↦ (Err BadFirst, m) | false ↦ (Ok tt, fresh first m) ]
   ]
 
-  -- a function's answer with the four parts of the memory after it
-  abbrev pub after : {R : Type 0} → R → Header → List (Node K) → List (Controller K) → List ℕ → R × Memory K
-  after r h ns cs ms = (r, record { header = h; nodes = ns; controllers = cs; marks = ms })
-
   abbrev pub memory : Header → List (Node K) → List (Controller K) → List ℕ → Memory K
   memory h ns cs ms = record { header = h; nodes = ns; controllers = cs; marks = ms }
+
+  -- what a board's references point to
+  abbrev pub lent : Board K → Memory K
+  lent b = memory b.header.now b.nodes.now b.controllers.now b.marks.now

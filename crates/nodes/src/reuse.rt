@@ -1,6 +1,6 @@
 // Which nodes may be used again.
 ghost use Rattle.std.specs.Prelude.{◌≡◌, length};
-ghost use Rattle.nodes.specs.Reuse.{is_running, precedes as comes_before, awaited as is_awaited, reusable, reusable_at, highest, reusable_count};
+ghost use Rattle.nodes.specs.Reuse.{is_running, precedes as comes_before, awaited as is_awaited, retired_long, reusable, reusable_at, highest, reusable_count};
 
 use crate::controller::{Controller, Phase};
 use crate::node::{Kind, Node};
@@ -33,19 +33,19 @@ fn is_awaited<K>(controllers: &[Controller<K>], number: u32) -> bool
     false
 }
 
+// Whether a retire number is one, and no operation that was started before that still runs.
+fn is_retired_long<K>(controllers: &[Controller<K>], retired: Option<u32>) -> bool
+    ensures { result ≡ retired_long controllers.now retired }
+{
+    retired.is_some_and(|number| !is_awaited(controllers, number))
+}
+
 // Whether the node with this number may be used again: it is not node 0, and it is vacant, or it
 // retired and no operation that was started before that still runs.
 pub fn is_reusable<K>(controllers: &[Controller<K>], at: usize, node: &Node<K>) -> bool
     ensures { result ≡ reusable controllers.now at node.now }
 {
-    if at == 0 {
-        return false;
-    }
-    match (node.kind, node.retired) {
-        (Kind::Vacant, _) => true,
-        (_, Some(number)) => !is_awaited(controllers, number),
-        _ => false,
-    }
+    at != 0 && (matches!(node.kind, Kind::Vacant) || is_retired_long(controllers, node.retired))
 }
 
 // Whether there is a node with this number that may be used again.

@@ -1,6 +1,6 @@
 // Set-up of a board in the memory that the caller lends.
 ghost use Rattle.std.specs.Prelude.{◌≡◌, map};
-ghost use Rattle.nodes.specs.Memory.{sizes_fit, cleared, fresh_nodes, fresh_controller, set_up, memory, after};
+ghost use Rattle.nodes.specs.Memory.{sizes_fit, cleared, fresh_nodes, fresh_controller, set_up, lent};
 ghost use Rattle.nodes.specs.declared.node.Kind.TheVariants.{Vacant};
 
 use crate::controller::{Controller, Phase};
@@ -21,12 +21,20 @@ pub fn fits(nodes: usize, controllers: usize, marks: usize) -> bool
     (1..=4096).contains(&nodes) && (1..=16).contains(&controllers) && marks == controllers * nodes
 }
 
+// Puts in the place of each element what a closure makes of it.
+fn replace_each<T: Copy, F: Fn(T) -> T>(items: &mut [T], change: F)
+    requires { F.IsAlwaysCallable change }
+    ensures { (becomes : T → T) → ((x y : T) → F.post change x y → y ≡ becomes x) → items.new ≡ map becomes items.old }
+{
+    for item in items.iter_mut() {
+        *item = change(*item);
+    }
+}
+
 fn vacate<K: Copy>(nodes: &mut [Node<K>])
     ensures { nodes.new ≡ map (cleared Vacant) nodes.old }
 {
-    for node in nodes.iter_mut() {
-        *node = Node::new(node.key, Kind::Vacant);
-    }
+    replace_each(nodes, |node| Node::new(node.key, Kind::Vacant));
 }
 
 // Node 0 becomes the main sentinel, the others vacant.
@@ -42,14 +50,15 @@ fn set_up_nodes<K: Copy>(nodes: &mut [Node<K>])
 fn set_up_controllers<K: Copy>(controllers: &mut [Controller<K>])
     ensures { controllers.new ≡ map fresh_controller controllers.old }
 {
-    for c in controllers.iter_mut() {
-        *c = Controller {
+    replace_each(
+        controllers,
+        |c| Controller {
             operation: None,
             ticket: 0,
             phase: Phase::Idle,
-            ..*c
-        };
-    }
+            ..c
+        },
+    );
 }
 
 fn set_up_marks(marks: &mut [u8])
@@ -70,7 +79,7 @@ pub struct Board<'a, K> {
 impl<K: Copy> Board<'_, K> {
     // Sets the board up, with the ticket that the first start takes. Keys stay, all else is none.
     pub fn set_up(&mut self, first: u32) -> Result<(), Refusal>
-        ensures after { after result self.new.header.now self.new.nodes.now self.new.controllers.now self.new.marks.now ≡ set_up first (memory self.old.header.now self.old.nodes.now self.old.controllers.now self.old.marks.now) }
+        ensures after { (result, lent self.new) ≡ set_up first (lent self.old) }
         ensures same_header { self.new.header.ghost_name ≡ self.old.header.ghost_name }
         ensures same_nodes { self.new.nodes.ghost_name ≡ self.old.nodes.ghost_name }
         ensures same_controllers { self.new.controllers.ghost_name ≡ self.old.controllers.ghost_name }

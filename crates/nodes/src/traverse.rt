@@ -29,8 +29,7 @@ impl Chain {
         ensures { result ≡ chain_of kind }
     {
         match kind {
-            Kind::Vacant => None,
-            Kind::Sentinel => None,
+            Kind::Vacant | Kind::Sentinel => None,
             Kind::Job { .. } => Some(Chain::Jobs),
             Kind::Wait { .. } => Some(Chain::Waits),
         }
@@ -40,20 +39,16 @@ impl Chain {
     pub(crate) fn heads(self, kind: Kind) -> bool
         ensures { result ≡ is_head self kind }
     {
-        match kind {
-            Kind::Sentinel => true,
-            _ => self.holds(kind),
-        }
+        matches!(kind, Kind::Sentinel) || self.holds(kind)
     }
 
     // Whether a node of this kind stands in the chain, behind its sentinel.
     fn holds(self, kind: Kind) -> bool
         ensures { result ≡ in_chain self kind }
     {
-        match (self, kind) {
-            (Chain::Jobs, Kind::Job { .. }) => true,
-            (Chain::Waits, Kind::Wait { .. }) => true,
-            _ => false,
+        match self {
+            Chain::Jobs => matches!(kind, Kind::Job { .. }),
+            Chain::Waits => matches!(kind, Kind::Wait { .. }),
         }
     }
 }
