@@ -22,7 +22,9 @@ use Rattle.rules.specs.declared.decision.Decision.TheVariants.{Take}
 use Rattle.rules.specs.declared.decision.Effect.TheVariants.{Nothing, MarkRemoved, Commit}
 use Rattle.rules.specs.declared.decision.Marking.{Marking}
 use Rattle.rules.specs.declared.decision.Marking.TheVariants.{Keep, Set}
+use Rattle.rules.specs.declared.decision.Mark.TheVariants.{Unvisited, Frontier, Expanded}
 use Rattle.rules.specs.Find.{gone}
+use Rattle.rules.specs.Marks.{mark_byte}
 use Rattle.rules.specs.Write.{moves, takes, mark_at, own, lowest_frontier}
 
 -- a job of that generation that is not removed
@@ -40,7 +42,7 @@ module _ {K : Type 0} where
   abbrev pub reach : List (Node K) → List ℕ → ℕ → ℕ → ℕ → Option Marking
   reach ns ms w g i =
       node_at ns i >>= λ x. mark_at (length ns) w i ms >>= λ m.
-      Some (cond (is_target g x.kind && m == 0) (Set i 1) Keep)
+      Some (cond (is_target g x.kind && m == mark_byte Unvisited) (Set i Frontier) Keep)
 
   abbrev pub reach_by : List (Node K) → List ℕ → ℕ → Kind → Option Marking
   reach_by ns ms w Vacant = None
@@ -55,7 +57,7 @@ module _ {K : Type 0} where
   unfoldable pub expand : List (Node K) → JobRef → JobRef → ℕ × Option ℕ → ℕ → ℕ → Option (Decision K)
   expand ns u v p t i =
       node_at ns i >>= λ x. job_ref i x.kind >>= λ j. node_at ns j.sentinel >>= λ s.
-      when (is_sentinel s.kind) (Some (Take Nothing (Set i 2) (Explore u v p t (Some j.sentinel))))
+      when (is_sentinel s.kind) (Some (Take Nothing (Set i Expanded) (Explore u v p t (Some j.sentinel))))
 
   unfoldable pub conclude : List (Node K) → JobRef → JobRef → ℕ × Option ℕ → ℕ → Option (Decision K)
   conclude ns u v p t =
@@ -73,4 +75,4 @@ module _ {K : Type 0} where
   unfoldable pub explore : List (Node K) → List ℕ → ℕ → JobRef → JobRef → ℕ × Option ℕ → ℕ → Option ℕ → Option (Decision K)
   explore ns ms w u v p t place =
       mark_at (length ns) w u.node ms >>= λ m.
-      elim (m == 0) [ false ↦ reject ns p t Circle | true ↦ by_place ns ms w u v p t place ]
+      elim (m == mark_byte Unvisited) [ false ↦ reject ns p t Circle | true ↦ by_place ns ms w u v p t place ]

@@ -6,6 +6,7 @@ pub mod Graph
 pub mod Locate
 pub mod Lock
 pub mod Machine
+pub mod Marks
 pub mod Release
 pub mod Runs
 pub mod Schedules

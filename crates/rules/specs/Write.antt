@@ -4,7 +4,7 @@
 --     applied w n e ns     the nodes after the effect e of controller w, where n is the next ticket; none is damage
 --     mark_at n w i ms     the mark of controller w for node i, where there are n nodes
 --     own n w ms           the marks of controller w
---     lowest_frontier ms   the lowest number with mark 1
+--     lowest_frontier ms   the lowest number that is marked as the frontier
 --     marked n w k ms      the marks after the marking k of controller w
 use Rattle.std.specs.Prelude.{ℕ, suc, ◌+◌, ◌*◌, true, false, List, [], ◌∷◌, ◌++◌, take, drop, replicate, Some, None, Option, ◌==◌, nat_lt, slice_set}
 use Rattle.std.specs.List.{slice_get}
@@ -18,6 +18,8 @@ use Rattle.rules.specs.declared.decision.Effect.{Effect}
 use Rattle.rules.specs.declared.decision.Effect.TheVariants.{Nothing, Lock, Unlock, LinkJob, LinkWait, MarkRemoved, Commit, Unlink, Retire}
 use Rattle.rules.specs.declared.decision.Marking.{Marking}
 use Rattle.rules.specs.declared.decision.Marking.TheVariants.{Keep, Begin, Set}
+use Rattle.rules.specs.declared.decision.Mark.TheVariants.{Unvisited, Frontier}
+use Rattle.rules.specs.Marks.{mark_byte}
 
 module _ {K : Type 0} where
   abbrev pub moves : Phase → Option (Decision K)
@@ -45,12 +47,12 @@ own n w ms = take n (drop (w * n) ms)
 
 abbrev pub lowest_frontier : List ℕ → Option ℕ
 lowest_frontier [] = None
-lowest_frontier (m ∷ ms) = elim (m == 1) [ true ↦ Some 0 | false ↦ lowest_frontier ms >>= λ i. Some (suc i) ]
+lowest_frontier (m ∷ ms) = elim (m == mark_byte Frontier) [ true ↦ Some 0 | false ↦ lowest_frontier ms >>= λ i. Some (suc i) ]
 
 abbrev pub unvisited : ℕ → ℕ → List ℕ → List ℕ
-unvisited n w ms = take (w * n) ms ++ (replicate n 0 ++ drop (w * n + n) ms)
+unvisited n w ms = take (w * n) ms ++ (replicate n (mark_byte Unvisited) ++ drop (w * n + n) ms)
 
 abbrev pub marked : ℕ → ℕ → Marking → List ℕ → List ℕ
 marked n w Keep ms = ms
-marked n w (Begin i) ms = slice_set (unvisited n w ms) (w * n + i) 1
-marked n w (Set i m) ms = slice_set ms (w * n + i) m
+marked n w (Begin i) ms = slice_set (unvisited n w ms) (w * n + i) (mark_byte Frontier)
+marked n w (Set i m) ms = slice_set ms (w * n + i) (mark_byte m)
