@@ -76,12 +76,14 @@ fn set_up_clears_all_but_keys(rt: HostRuntime) {
         controllers: &mut controllers,
         marks: &mut marks,
     };
-    assert!(rt; board.set_up(4).is_ok());
+    assert_eq!(rt; board.set_up(4), Ok(()));
     assert_eq!(rt; header.next_ticket, 4);
-    assert!(rt; matches!(nodes[0].kind, Kind::Sentinel) && matches!(nodes[1].kind, Kind::Vacant));
+    assert_eq!(rt; nodes[0].kind, Kind::Sentinel);
+    assert_eq!(rt; nodes[1].kind, Kind::Vacant);
     assert_eq!(rt; nodes[1].key, 7);
     assert!(rt; nodes[1].next.is_none() && nodes[1].lock.is_none() && nodes[1].retired.is_none());
-    assert!(rt; matches!(controllers[0].phase, Phase::Idle) && controllers[0].u == 5);
+    assert_eq!(rt; controllers[0].phase, Phase::Idle);
+    assert_eq!(rt; controllers[0].u, 5);
     assert_eq!(rt; marks[1], 0);
 }
 

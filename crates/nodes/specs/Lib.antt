@@ -1,5 +1,6 @@
 pub mod Access
 pub mod Chains
+pub mod Closures
 pub mod Effects
 pub mod Memory
 pub mod Operations

@@ -3,6 +3,7 @@
 --     fits m               1 to 4096 nodes, 1 to 16 controllers, and for each of them a mark for each node
 --     fresh_nodes ns       node 0 the main sentinel, the others vacant; keys stay, all else is none
 --     fresh_controller c   idle; keys stay
+--     lent b               what a board's references point to
 --     set_up f m           what set-up with the first ticket f answers, and the memory after it
 use Rattle.std.specs.Prelude.{ℕ, ◌*◌, Bool, true, false, ◌&&◌, List, [], ◌∷◌, map, length, None, Ok, Err, Result, ◌==◌, nat_le}
 use Rattle.nodes.specs.declared.controller.Controller.{Controller}
@@ -56,6 +57,5 @@ module _ {K : Type 0} where
   abbrev pub memory : Header → List (Node K) → List (Controller K) → List ℕ → Memory K
   memory h ns cs ms = record { header = h; nodes = ns; controllers = cs; marks = ms }
 
-  -- what a board's references point to
   abbrev pub lent : Board K → Memory K
   lent b = memory b.header.now b.nodes.now b.controllers.now b.marks.now

@@ -12,7 +12,7 @@ pub fn read<K: Copy>(nodes: &[Node<K>], at: usize) -> Option<Node<K>>
 }
 
 // Writes a node in the place of the one with this number; a number past the end changes nothing.
-// It indexes, since of a slice's `get_mut` nothing is known that is written through it.
+// It indexes the slice: a proof knows nothing of what is written through a slice's `get_mut`.
 pub fn put<K: Copy>(nodes: &mut [Node<K>], at: usize, node: Node<K>)
     ensures { nodes.new ≡ slice_set nodes.old at node }
 {

@@ -1,6 +1,7 @@
 // What the rules write to chains. Each function looks at the nodes that it names before it writes.
 ghost use Rattle.std.specs.Prelude.{◌≡◌, Option};
 ghost use Rattle.nodes.specs.declared.node.Kind.{Kind as KindOf};
+ghost use Rattle.nodes.specs.Closures.{Computes};
 ghost use Rattle.nodes.specs.Effects.{written, link_job, link_wait, rewrite_kind, mark_removed, commit as committed, unlink as unlinked, retire as retired_with};
 
 use crate::access::{put, read};
@@ -93,7 +94,7 @@ fn rewrite_kind<K: Copy, F: FnOnce(Kind) -> Option<Kind>>(
     change: F,
 ) -> Result<(), Damage>
     requires { F.IsAlwaysCallable change }
-    ensures { (becomes : KindOf → Option KindOf) → ((k : KindOf) (r : Option KindOf) → F.post change k r → r ≡ becomes k) → (result, nodes.new) ≡ written nodes.old (rewrite_kind becomes at nodes.old) }
+    ensures { (becomes : KindOf → Option KindOf) → Computes (F.post change) becomes → (result, nodes.new) ≡ written nodes.old (rewrite_kind becomes at nodes.old) }
 {
     let node = read(nodes, usize::from(at)).ok_or(Damage)?;
     let kind = change(node.kind).ok_or(Damage)?;

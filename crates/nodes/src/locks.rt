@@ -39,6 +39,7 @@ fn unlock_one<K: Copy>(nodes: &mut [Node<K>], at: u16, who: u8)
     }
 }
 
+// The same for a node that may be none.
 fn unlock_maybe<K: Copy>(nodes: &mut [Node<K>], at: Option<u16>, who: u8)
     ensures { nodes.new ≡ unlock_maybe who at nodes.old }
 {

@@ -3,8 +3,8 @@ ghost use Rattle.std.specs.Prelude.{◌≡◌};
 ghost use Rattle.nodes.specs.Effects.{removed_kind, committed_kind};
 ghost use Rattle.nodes.specs.Access.{new_node};
 
-// A node and the next one of its chain, or none. The rules speak of pairs of numbers, so it is a
-// tuple and no struct.
+// A pair of neighbours: a node and the next one of its chain, or none. It is a tuple and no struct, by
+// a rule of the project.
 pub type Pair = (u16, Option<u16>);
 
 // How far a wait has come: `Tentative` while its maker still explores whether it would close a

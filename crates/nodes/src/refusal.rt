@@ -50,7 +50,8 @@ impl From<UnknownOperation> for Refusal {
 }
 
 impl Refusal {
-    // The number by which a refusal is told.
+    // The number by which a refusal is told. A method, and no `From`: it is said of the refusal, and
+    // is not the refusal as another type.
     pub fn number(self) -> u8
         ensures { result ≡ refusal_number self }
     {

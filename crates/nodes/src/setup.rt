@@ -1,5 +1,6 @@
 // Set-up of a board in the memory that the caller lends.
 ghost use Rattle.std.specs.Prelude.{◌≡◌, map};
+ghost use Rattle.nodes.specs.Closures.{Computes};
 ghost use Rattle.nodes.specs.Memory.{sizes_fit, cleared, fresh_nodes, fresh_controller, set_up, lent};
 ghost use Rattle.nodes.specs.declared.node.Kind.TheVariants.{Vacant};
 
@@ -24,13 +25,14 @@ pub fn fits(nodes: usize, controllers: usize, marks: usize) -> bool
 // Puts in the place of each element what a closure makes of it.
 fn replace_each<T: Copy, F: Fn(T) -> T>(items: &mut [T], change: F)
     requires { F.IsAlwaysCallable change }
-    ensures { (becomes : T → T) → ((x y : T) → F.post change x y → y ≡ becomes x) → items.new ≡ map becomes items.old }
+    ensures { (becomes : T → T) → Computes (F.post change) becomes → items.new ≡ map becomes items.old }
 {
     for item in items.iter_mut() {
         *item = change(*item);
     }
 }
 
+// Every node becomes vacant, with its key alone.
 fn vacate<K: Copy>(nodes: &mut [Node<K>])
     ensures { nodes.new ≡ map (cleared Vacant) nodes.old }
 {
@@ -47,6 +49,7 @@ fn set_up_nodes<K: Copy>(nodes: &mut [Node<K>])
     }
 }
 
+// Every controller becomes idle, with its keys alone.
 fn set_up_controllers<K: Copy>(controllers: &mut [Controller<K>])
     ensures { controllers.new ≡ map fresh_controller controllers.old }
 {
@@ -61,6 +64,7 @@ fn set_up_controllers<K: Copy>(controllers: &mut [Controller<K>])
     );
 }
 
+// Every mark becomes unvisited.
 fn set_up_marks(marks: &mut [u8])
     ensures { marks.new ≡ map (λ _. 0) marks.old }
 {
