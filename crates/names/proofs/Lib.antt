@@ -2,4 +2,3 @@ pub mod Headings
 pub mod Listings
 pub mod Numbers
 pub mod Reports
-pub mod Texts

@@ -1,47 +1,46 @@
--- One piece more of a line that is cut into words, and one word more that is to be a number.
-use Rattle.std.proofs.Common.{◌≡◌, ℕ, ◌+◌, ◌<◌, ◌≤◌, true, false, eqb, List, [], ◌∷◌, ◌++◌, map, length, get_or, drop, Some, None, Option, sym, refl, ap, ◌∙◌, append_assoc, append-nil, arith, Bor, eqb-true}
-use borrow.Author.Tests.{eqb-false}
-use Rattle.std.proofs.lemmas.List.{at_drop_more, at_drop_all, map_push}
-use Rattle.names.specs.Text.{filled, number, and_then, numbers}
+-- A word that is read as a number, digit by digit, and one word more that is to be a number.
+use Rattle.std.proofs.Common.{◌≡◌, ℕ, ◌+◌, ◌<◌, ◌≤◌, List, [], ◌∷◌, ◌++◌, map, length, get_or, drop, Some, None, Option, sym, refl, ap, ◌∙◌, append_assoc, append-nil, Bor, Iter}
+use Rattle.std.specs.List.{FoldsTo}
+use Rattle.std.specs.Option.{MatchOption}
+use Rattle.std.specs.Iterator.{YieldsThen}
+use Rattle.std.proofs.iter.Yields.{fronts}
+use Rattle.std.proofs.lemmas.Iterator.{YieldsList}
+use Rattle.std.proofs.lemmas.Iterator.Consumers.{YieldsList-so_far, YieldsList-turn, YieldsList-end}
+use Rattle.std.proofs.lemmas.List.{at_drop_more, at_drop_all, take-append-drop}
+use Rattle.names.specs.Text.{with_digit, read_on, number, and_then, numbers}
+
+-- ---- digits
+
+abbrev on_digit : Option ℕ → List ℕ → Option ℕ
+on_digit o bs = elim o [ None ↦ None | Some m ↦ read_on m bs ]
+
+-- Step takes a digit more into the number; bs are the bytes that were read, and the byte o stopped the reading, if there is one
+module _ {P : Type 0} (Step : P × ℕ → Bor ℕ → P × ℕ → Type 0) (reads : (p : P × ℕ) (b : Bor ℕ) (q : P × ℕ) → Step p b q → with_digit p.1 b.now ≡ Some q.1) where
+  digits_read : (bs : List (Bor ℕ)) (p q : P × ℕ) (rest : List ℕ) → FoldsTo Step p bs q → read_on p.1 (map (λ x. x.now) bs ++ rest) ≡ read_on q.1 rest
+  digits_read [] p q rest e = ap (λ s. read_on s.1 rest) e
+  digits_read (b ∷ bs) p q rest e = ap (λ o. on_digit o (map (λ x. x.now) bs ++ rest)) (reads p b e.0 e.1) ∙ digits_read bs e.0 q rest e.2
+
+  pub word_read : (word : List ℕ) (s u : Iter ℕ) → YieldsList fronts (λ y. y.now) s word → (bs : List (Bor ℕ)) (o : Option (Bor ℕ)) (p q : P × ℕ) (r : Option ℕ) (Stop : Bor ℕ → Type 0)
+      → ((b : Bor ℕ) → Stop b → (with_digit q.1 b.now ≡ None) × (r ≡ None)) → YieldsThen fronts s bs o u → FoldsTo Step p bs q → MatchOption o (r ≡ Some q.1) Stop → r ≡ read_on p.1 word
+  word_read word s u yields bs None p q r Stop stops e steps is =
+      is ∙ sym (ap (read_on p.1) (sym (YieldsList-end yields bs e.0 e.1 None u refl e.2).0 ∙ sym (append-nil _)) ∙ digits_read bs p q [] steps)
+  word_read word s u yields bs (Some b) p q r Stop stops e steps is =
+      let passed = YieldsList-so_far yields bs e.0 e.1 in
+      let turn = YieldsList-turn yields bs e.0 e.1 (Some b) u b refl e.2 in
+      let k = length bs in
+      (stops b is).1
+      ∙ sym
+      (ap (read_on p.1) (sym (take-append-drop k word) ∙ ap (λ l. l ++ drop k word) (sym passed))
+      ∙ at_drop_more (λ l. read_on p.1 (map (λ x. x.now) bs ++ l)) word k b.now turn.0
+      ∙ digits_read bs p q (get_or word k b.now ∷ drop (k + 1) word) steps
+      ∙ ap (λ v. on_digit (with_digit q.1 v) (drop (k + 1) word)) (sym turn.1)
+      ∙ ap (λ o. on_digit o (drop (k + 1) word)) (stops b is).0)
+
+pub by_length : (word : List ℕ) → (length word ≡ 0 → ⊥) → number word ≡ read_on 0 word
+by_length [] some = absurd (some refl)
+by_length (b ∷ bs) some = refl
 
 -- ---- words
-
--- the words so far, with those among the pieces from i on
-abbrev pub words_from : List (Bor (List ℕ)) → List (Bor (List ℕ)) → ℕ → List (List ℕ)
-words_from ws ps i = map (λ x. x.now) ws ++ filled (map (λ x. x.now) (drop i ps))
-
-filled_empty : (p : List ℕ) (rest : List (List ℕ)) → length p ≡ 0 → filled (p ∷ rest) ≡ filled rest
-filled_empty [] rest e = refl
-filled_empty (b ∷ p) rest e = absurd (omega arith)
-
-filled_some : (p : List ℕ) (rest : List (List ℕ)) → (length p ≡ 0 → ⊥) → filled (p ∷ rest) ≡ p ∷ filled rest
-filled_some [] rest e = absurd (e refl)
-filled_some (b ∷ p) rest e = refl
-
-module _ (ws ps : List (Bor (List ℕ))) (i : ℕ) (d : Bor (List ℕ)) (here : i < length ps) where
-  -- the piece at i, and those behind it
-  abbrev piece : List ℕ
-  piece = (get_or ps i d).now
-
-  abbrev rest : List (List ℕ)
-  rest = map (λ x. x.now) (drop (i + 1) ps)
-
-  pub empty_piece : eqb (length piece) 0 ≡ true → words_from ws ps (i + 1) ≡ words_from ws ps i
-  empty_piece e =
-      sym (at_drop_more (λ l. map (λ x. x.now) ws ++ filled (map (λ x. x.now) l)) ps i d here ∙ ap (λ l. map (λ x. x.now) ws ++ l) (filled_empty piece rest (eqb-true (length piece) 0 e)))
-
-  pub a_word : (vs : List (Bor (List ℕ))) (w : Bor (List ℕ)) → eqb (length piece) 0 ≡ false → vs ≡ ws ++ (w ∷ []) → w.now ≡ piece → words_from vs ps (i + 1) ≡ words_from ws ps i
-  a_word vs w e pushed is =
-      ap (λ l. map (λ x. x.now) l ++ filled rest) pushed
-      ∙ ap (λ l. l ++ filled rest) (map_push (λ x. x.now) ws w)
-      ∙ append_assoc (map (λ x. x.now) ws) (w.now ∷ []) (filled rest)
-      ∙ ap (λ v. map (λ x. x.now) ws ++ (v ∷ filled rest)) is
-      ∙ sym (at_drop_more (λ l. map (λ x. x.now) ws ++ filled (map (λ x. x.now) l)) ps i d here ∙ ap (λ l. map (λ x. x.now) ws ++ l) (filled_some piece rest (eqb-false (length piece) 0 e)))
-
-pub no_more_pieces : (ws ps : List (Bor (List ℕ))) (i : ℕ) → length ps ≤ i → words_from ws ps i ≡ map (λ x. x.now) ws
-no_more_pieces ws ps i past = at_drop_all (λ l. map (λ x. x.now) ws ++ filled (map (λ x. x.now) l)) ps i past ∙ append-nil (map (λ x. x.now) ws)
-
--- ---- numbers
 
 -- the numbers so far before those to come
 abbrev pub before : List ℕ → Option (List ℕ) → Option (List ℕ)

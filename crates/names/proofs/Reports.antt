@@ -6,9 +6,8 @@ use Rattle.names.specs.declared.listing.LineFault.{LineFault}
 use Rattle.names.specs.declared.name.Fault.{Fault}
 use Rattle.names.specs.Reports.{one_if_refused, refused_count, fault_line, fault_lines, repeats, doubles, name_line, name_lines, TellsUnder, Tells}
 use Rattle.names.specs.Headings.{headed}
-use Rattle.names.specs.Text.{split}
+use Rattle.names.specs.Text.{lines}
 use Rattle.names.specs.declared.heading.Heading.{Heading}
-use Rattle.names.specs.declared.text.Separator.TheVariants.{LineFeed}
 
 -- out is the text so far, l the line that is pushed and rest what is to come
 text_more : (out next l rest ahead whole : List ℕ) → next ≡ out ++ l → ahead ≡ l ++ rest → out ++ ahead ≡ whole → next ++ rest ≡ whole
@@ -48,6 +47,6 @@ three_pushed a b c d f n l none first second third =
     third ∙ ap (λ t. t ++ l) (second ∙ ap (λ t. t ++ n) (first ∙ ap (λ t. t ++ f) none)) ∙ append_assoc f n l
 
 -- the lines and the heading that were read are those of the text
-pub tells_by : (text bs : List ℕ) (ls : List (List ℕ)) (h : Heading) (n : ℕ) → ls ≡ split LineFeed text → (h, n) ≡ headed 0 ls → TellsUnder h n ls bs → Tells text bs
-tells_by text bs ls h n lines heading said =
-    subst (λ l. TellsUnder (headed 0 l).0 (headed 0 l).1 l bs) lines (subst (λ p. TellsUnder p.0 p.1 ls bs) heading said)
+pub tells_by : (text bs : List ℕ) (ls : List (List ℕ)) (h : Heading) (n : ℕ) → ls ≡ lines text → (h, n) ≡ headed 0 ls → TellsUnder h n ls bs → Tells text bs
+tells_by text bs ls h n is heading said =
+    subst (λ l. TellsUnder (headed 0 l).0 (headed 0 l).1 l bs) is (subst (λ p. TellsUnder p.0 p.1 ls bs) heading said)

@@ -21,11 +21,10 @@ use Rattle.names.specs.declared.heading.Heading.TheVariants.{Missing, Unknown, N
 use Rattle.names.specs.declared.name.Fault.{Fault}
 use Rattle.names.specs.declared.name.Fault.TheVariants.{Refused, Unreadable}
 use Rattle.names.specs.declared.listing.LineFault.{LineFault}
-use Rattle.names.specs.declared.text.Separator.TheVariants.{LineFeed}
 use Rattle.names.specs.Headings.{headed}
 use Rattle.names.specs.Listings.{names, faults}
 use Rattle.names.specs.Names.{number_named, row_named, number_written, row_written, number_expected, row_expected}
-use Rattle.names.specs.Text.{split}
+use Rattle.names.specs.Text.{lines}
 
 abbrev pub one_if_refused : Fault → ℕ
 one_if_refused (Refused e) = 1
@@ -90,4 +89,4 @@ TellsUnder Numbers n ls bs = Reported numbered number_named number_written numbe
 TellsUnder Addresses n ls bs = Reported row_order row_named row_written row_expected n ls bs
 
 abbrev pub Tells : List ℕ → List ℕ → Type 0
-Tells text bs = let h = headed 0 (split LineFeed text) in TellsUnder h.0 h.1 (split LineFeed text) bs
+Tells text bs = let h = headed 0 (lines text) in TellsUnder h.0 h.1 (lines text) bs

@@ -5,7 +5,7 @@ ghost use Rattle.names.specs.Reports.{refused_count, fault_line, fault_lines, re
 use crate::heading::{Heading, find_heading};
 use crate::listing::{LineFault, read_lines};
 use crate::name::{Fault, Name};
-use crate::text::{Separator, split};
+use crate::text::lines;
 use order::key::{Key, Order};
 use order::lists::arrange;
 use order::row::Row;
@@ -187,7 +187,7 @@ fn report_under(
 pub fn report(heap: Global, text: &[u8]) -> Result<String, AllocError>
     ensures { IfOk result (λ s. Tells text.now (string_bytes s)) }
 {
-    let lines = split(heap, text, Separator::LineFeed)?;
+    let lines = lines(heap, text)?;
     let (heading, from) = find_heading(heap, &lines)?;
     report_under(heap, heading, &lines, from)
 }
