@@ -4,10 +4,7 @@ use Rattle.std.proofs.lemmas.List.{at_drop_more, at_drop_all}
 use Rattle.order.specs.declared.key.Order.{Order}
 use Rattle.names.specs.declared.listing.LineFault.{LineFault}
 use Rattle.names.specs.declared.name.Fault.{Fault}
-use Rattle.names.specs.Reports.{one_if_refused, refused_count, fault_line, fault_lines, repeats, doubles, name_line, name_lines, TellsUnder, Tells}
-use Rattle.names.specs.Headings.{headed}
-use Rattle.names.specs.Text.{lines}
-use Rattle.names.specs.declared.heading.Heading.{Heading}
+use Rattle.names.specs.Reports.{one_if_refused, refused_count, fault_line, fault_lines, repeats, doubles, name_line, name_lines}
 
 -- out is the text so far, l the line that is pushed and rest what is to come
 text_more : (out next l rest ahead whole : List ℕ) → next ≡ out ++ l → ahead ≡ l ++ rest → out ++ ahead ≡ whole → next ++ rest ≡ whole
@@ -45,8 +42,3 @@ module _ {K : Type 0} (order : K → K → Order) (ks : List K) (i : ℕ) where
 pub three_pushed : (a b c d f n l : List ℕ) → a ≡ [] → b ≡ a ++ f → c ≡ b ++ n → d ≡ c ++ l → d ≡ f ++ (n ++ l)
 three_pushed a b c d f n l none first second third =
     third ∙ ap (λ t. t ++ l) (second ∙ ap (λ t. t ++ n) (first ∙ ap (λ t. t ++ f) none)) ∙ append_assoc f n l
-
--- the lines and the heading that were read are those of the text
-pub tells_by : (text bs : List ℕ) (ls : List (List ℕ)) (h : Heading) (n : ℕ) → ls ≡ lines text → (h, n) ≡ headed 0 ls → TellsUnder h n ls bs → Tells text bs
-tells_by text bs ls h n is heading said =
-    subst (λ l. TellsUnder (headed 0 l).0 (headed 0 l).1 l bs) is (subst (λ p. TellsUnder p.0 p.1 ls bs) heading said)

@@ -8,8 +8,10 @@
 --     summary ns ds rs us       the last line: names, doubles, refused, unreadable
 --     told ks fs                the faults, the keys, and the last line
 --     Reported n ls bs          bs tells of the names on the lines from index n on, in the kind's order
+--     TellsUnder k n ls bs      the same, of the kind k
+--     TellsBy h ls bs           bs tells of the names behind the heading h, or what is wrong with the first line
 --     Tells text bs           bs tells of the names that text lists, or what is wrong with its first line
-use Rattle.std.specs.Prelude.{◌≡◌, ℕ, ◌+◌, ◌-◌, Bool, true, false, cond, List, [], ◌∷◌, ◌++◌, length, drop, Some, None, codes, decimal, Option, Result}
+use Rattle.std.specs.Prelude.{◌≡◌, ℕ, ◌+◌, ◌-◌, Bool, true, false, cond, List, [], ◌∷◌, ◌++◌, length, drop, Some, None, Ok, Err, codes, decimal, Option, Result}
 use Rattle.order.specs.declared.key.Order.{Order}
 use Rattle.order.specs.declared.key.Order.TheVariants.{Before, Same, After}
 use Rattle.order.specs.Addresses.{refusal_number}
@@ -17,11 +19,13 @@ use Rattle.order.specs.Lists.{Arranged}
 use Rattle.order.specs.Orders.{numbered}
 use Rattle.order.specs.Rows.{row_order}
 use Rattle.names.specs.declared.heading.Heading.{Heading}
-use Rattle.names.specs.declared.heading.Heading.TheVariants.{Missing, Unknown, Numbers, Addresses}
+use Rattle.names.specs.declared.heading.HeadingFault.{HeadingFault}
+use Rattle.names.specs.declared.heading.NameKind.{NameKind}
+use Rattle.names.specs.declared.heading.NameKind.TheVariants.{Numbers, Addresses}
 use Rattle.names.specs.declared.name.Fault.{Fault}
 use Rattle.names.specs.declared.name.Fault.TheVariants.{Refused, Unreadable}
 use Rattle.names.specs.declared.listing.LineFault.{LineFault}
-use Rattle.names.specs.Headings.{headed}
+use Rattle.names.specs.Headings.{complaint, headed}
 use Rattle.names.specs.Listings.{names, faults}
 use Rattle.names.specs.Names.{number_named, row_named, number_written, row_written, number_expected, row_expected}
 use Rattle.names.specs.Text.{lines}
@@ -82,11 +86,13 @@ module _ {K : Type 0} (order : K → K → Order) where
     pub arranged : Arranged order (names named (drop n ls)) keys
     pub is : bs ≡ told written expected keys (faults named (n + 1) (drop n ls))
 
-abbrev pub TellsUnder : Heading → ℕ → List (List ℕ) → List ℕ → Type 0
-TellsUnder Missing n ls bs = bs ≡ codes "The first line is missing: it says numbers or addresses.\n"
-TellsUnder Unknown n ls bs = bs ≡ codes "The first line is unknown: it says numbers or addresses.\n"
+abbrev pub TellsUnder : NameKind → ℕ → List (List ℕ) → List ℕ → Type 0
 TellsUnder Numbers n ls bs = Reported numbered number_named number_written number_expected n ls bs
 TellsUnder Addresses n ls bs = Reported row_order row_named row_written row_expected n ls bs
 
+abbrev pub TellsBy : Result Heading HeadingFault → List (List ℕ) → List ℕ → Type 0
+TellsBy (Ok h) ls bs = TellsUnder h.kind h.behind ls bs
+TellsBy (Err e) ls bs = bs ≡ complaint e ++ codes "\n"
+
 abbrev pub Tells : List ℕ → List ℕ → Type 0
-Tells text bs = let h = headed 0 (lines text) in TellsUnder h.0 h.1 (lines text) bs
+Tells text bs = TellsBy (headed 0 (lines text)) (lines text) bs

@@ -2,7 +2,7 @@
 ghost use Rattle.std.specs.Prelude.{◌≡◌, ◌++◌, map, IfOk, None as Nothing, string_bytes, OnOk};
 ghost use Rattle.names.specs.Reports.{refused_count, fault_line, fault_lines, repeats as repeats_key, doubles as doubles_in, mark as marked, name_line, name_lines, summary as summed, told, Reported, TellsUnder, Tells};
 
-use crate::heading::{Heading, find_heading};
+use crate::heading::{Heading, NameKind, find_heading};
 use crate::listing::{LineFault, read_lines};
 use crate::name::{Fault, Name};
 use crate::text::lines;
@@ -156,30 +156,13 @@ fn report_names<K: Name>(heap: Global, lines: &[&[u8]], from: usize) -> Result<S
     tell(heap, &keys, &listing.faults)
 }
 
-// What is told under a heading of the lines from this index on.
-fn report_under(
-    heap: Global,
-    heading: Heading,
-    lines: &[&[u8]],
-    from: usize,
-) -> Result<String, AllocError>
-    ensures { IfOk result (λ s. TellsUnder heading from (map (λ x. x.now) lines.now) (string_bytes s)) }
+// What is told under a heading of the lines behind it.
+fn report_under(heap: Global, heading: Heading, lines: &[&[u8]]) -> Result<String, AllocError>
+    ensures { IfOk result (λ s. TellsUnder heading.kind heading.behind (map (λ x. x.now) lines.now) (string_bytes s)) }
 {
-    match heading {
-        Heading::Missing => {
-            String::from_str(
-                heap,
-                "The first line is missing: it says numbers or addresses.\n",
-            )
-        }
-        Heading::Unknown => {
-            String::from_str(
-                heap,
-                "The first line is unknown: it says numbers or addresses.\n",
-            )
-        }
-        Heading::Numbers => report_names::<u32>(heap, lines, from),
-        Heading::Addresses => report_names::<Row>(heap, lines, from),
+    match heading.kind {
+        NameKind::Numbers => report_names::<u32>(heap, lines, heading.behind),
+        NameKind::Addresses => report_names::<Row>(heap, lines, heading.behind),
     }
 }
 
@@ -188,6 +171,8 @@ pub fn report(heap: Global, text: &[u8]) -> Result<String, AllocError>
     ensures { IfOk result (λ s. Tells text.now (string_bytes s)) }
 {
     let lines = lines(heap, text)?;
-    let (heading, from) = find_heading(heap, &lines)?;
-    report_under(heap, heading, &lines, from)
+    match find_heading(heap, &lines)? {
+        Ok(heading) => report_under(heap, heading, &lines),
+        Err(fault) => format!(in heap; "{fault}\n"),
+    }
 }
