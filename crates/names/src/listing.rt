@@ -1,6 +1,6 @@
 // A list of names, read line by line.
-ghost use Rattle.std.specs.Prelude.{◌≡◌, ◌+◌, [], ◌++◌, map, drop, IfOk, OnOk};
-ghost use Rattle.names.specs.Listings.{entry as entry_on, names as names_in, faults as faults_in, name_added, fault_added};
+ghost use Rattle.std.specs.Prelude.{◌≡◌, ◌+◌, ◌++◌, map, drop, IfOk, OnOk};
+ghost use Rattle.names.specs.Listings.{entry as entry_on, names as names_in, faults as faults_in, name_of, fault_of};
 
 use crate::name::{Fault, Name};
 use crate::text::{numbers, words};
@@ -31,17 +31,14 @@ fn entry<K: Name>(heap: Global, line: &[u8]) -> Result<Result<Option<K>, Fault>,
     if ns.is_empty() {
         return Ok(Ok(None));
     }
-    match K::from_numbers(&ns) {
-        Ok(k) => Ok(Ok(Some(k))),
-        Err(e) => Ok(Err(e)),
-    }
+    Ok(K::from_numbers(&ns).map(Some))
 }
 
 impl<K: Name> Listing<K> {
     // Adds what the line of this number gives.
     fn note(&mut self, number: usize, entry: Result<Option<K>, Fault>) -> Result<(), AllocError>
-        ensures names { OnOk result (self.new.names.items ≡ self.old.names.items ++ name_added entry []) }
-        ensures faults { OnOk result (self.new.faults.items ≡ self.old.faults.items ++ fault_added number entry []) }
+        ensures names { OnOk result (self.new.names.items ≡ self.old.names.items ++ name_of entry) }
+        ensures faults { OnOk result (self.new.faults.items ≡ self.old.faults.items ++ fault_of number entry) }
     {
         match entry {
             Ok(None) => {}
@@ -68,8 +65,8 @@ pub fn read_lines<K: Name>(
         names: Vec::new(heap),
         faults: Vec::new(heap),
     };
-    for i in from..lines.len() {
-        let entry = entry::<K>(heap, lines[i])?;
+    for (i, line) in lines.iter().enumerate().skip(from) {
+        let entry = entry::<K>(heap, line)?;
         listing.note(i + 1, entry)?;
     }
     Ok(listing)
