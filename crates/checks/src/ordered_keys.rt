@@ -1,8 +1,10 @@
 // Kinds of key at their edges, and lists of keys.
 use order::address::Address;
-use order::key::{Key, Order};
+use order::address::making::NoPlace;
+use order::key::Key;
 use order::lists::{arrange, rises};
 use order::row::Row;
+use std::cmp::Ordering;
 use std::test::Fail;
 use theory::theory_holds;
 
@@ -36,40 +38,29 @@ fn address_edges(rt: HostRuntime) {
 }
 
 #[test]
-fn address_keeps_its_numbers(rt: HostRuntime) -> Result<(), Fail> {
-    match Address::new(99, 999, 30) {
-        Ok(address) => {
-            assert_eq!(rt;
-                address.row(),
-                Row {
-                    aisle: 99,
-                    bay: 999,
-                    level: 30,
-                }
-            );
-            Ok(())
-        }
-        Err(_) => Err(Fail::new("an address was refused")),
-    }
+fn address_keeps_its_numbers(rt: HostRuntime) {
+    assert_eq!(rt;
+        Address::new(99, 999, 30).map(Row::from),
+        Ok(Row {
+            aisle: 99,
+            bay: 999,
+            level: 30,
+        })
+    );
 }
 
 #[test]
-fn no_place_is_ten(rt: HostRuntime) -> Result<(), Fail> {
-    match Address::new(1, 1, 31) {
-        Ok(_) => Err(Fail::new("no such level")),
-        Err(refusal) => {
-            assert_eq!(rt; refusal.number(), 10);
-            Ok(())
-        }
-    }
+fn no_place_is_ten(rt: HostRuntime) {
+    let refusal = Address::new(1, 1, 31).err();
+    assert_eq!(rt; refusal.map(NoPlace::number), Some(10));
 }
 
 #[test]
 fn numbers_at_their_ends(rt: HostRuntime) {
-    assert_eq!(rt; 0u32.compare(u32::MAX), Order::Before);
-    assert_eq!(rt; u32::MAX.compare(0), Order::After);
-    assert_eq!(rt; u32::MAX.compare(u32::MAX), Order::Same);
-    assert_eq!(rt; 0u32.compare(0), Order::Same);
+    assert_eq!(rt; 0u32.compare(u32::MAX), Ordering::Less);
+    assert_eq!(rt; u32::MAX.compare(0), Ordering::Greater);
+    assert_eq!(rt; u32::MAX.compare(u32::MAX), Ordering::Equal);
+    assert_eq!(rt; 0u32.compare(0), Ordering::Equal);
 }
 
 #[test]
@@ -84,10 +75,10 @@ fn rows_by_aisle_then_bay_then_level(rt: HostRuntime) {
         bay: 1,
         level: 1,
     };
-    assert_eq!(rt; low.compare(high), Order::Before);
-    assert_eq!(rt; Row { bay: 901, ..low }.compare(low), Order::After);
-    assert_eq!(rt; low.compare(Row { level: 10, ..low }), Order::Before);
-    assert_eq!(rt; low.compare(low), Order::Same);
+    assert_eq!(rt; low.compare(high), Ordering::Less);
+    assert_eq!(rt; Row { bay: 901, ..low }.compare(low), Ordering::Greater);
+    assert_eq!(rt; low.compare(Row { level: 10, ..low }), Ordering::Less);
+    assert_eq!(rt; low.compare(low), Ordering::Equal);
 }
 
 #[test]
@@ -108,7 +99,7 @@ fn arrangement_keeps_doubles(rt: HostRuntime) -> Result<(), Fail> {
 
 #[test]
 fn theory_holds_for_both_kinds(rt: HostRuntime) {
-    assert_eq!(rt; theory_holds::<u32, u8, bool>(3, 5), Order::Before);
+    assert_eq!(rt; theory_holds::<u32, u8, bool>(3, 5), Ordering::Less);
     let low = Row {
         aisle: 2,
         bay: 14,
@@ -119,5 +110,5 @@ fn theory_holds_for_both_kinds(rt: HostRuntime) {
         bay: 1,
         level: 1,
     };
-    assert_eq!(rt; theory_holds::<Row, u8, bool>(high, low), Order::After);
+    assert_eq!(rt; theory_holds::<Row, u8, bool>(high, low), Ordering::Greater);
 }

@@ -1,7 +1,7 @@
 -- The statement of a history refutes two wrong runs, and an honest one and the empty one meet it.
 use Rattle.std.proofs.Common.{◌≡◌, ℕ, zero, suc, ◌<◌, ◌≤◌, ◌⊎◌, List, [], ◌∷◌, Some, None, Option, sym, refl, ap, ◌∙◌, subst, inl, inr, arith}
 use Rattle.std.proofs.lemmas.Bool.{eq-eqb, le-leb, cases_eq}
-use Rattle.order.specs.declared.key.Order.{Order}
+use Rattle.std.specs.declared.cmp.Ordering.{Ordering}
 use Rattle.nodes.specs.declared.controller.Answer.{Answer}
 use Rattle.nodes.specs.declared.controller.Answer.TheVariants.{Yes, Full}
 use Rattle.nodes.specs.Memory.{Memory, fresh, fresh_nodes}
@@ -98,7 +98,7 @@ ledger = record { bare = same_refl empty; resting = resting; hands = hands; move
 fine : (n : ℕ) → Linearizes honest n
 fine = linearized honest stages ledger
 
-no_calls : {K : Type 0} (order : K → K → Order) (first : ℕ) (m : Memory K) → History (run_of order (fresh first m) []) 0 []
+no_calls : {K : Type 0} (order : K → K → Ordering) (first : ℕ) (m : Memory K) → History (run_of order (fresh first m) []) 0 []
 no_calls {K} order first m = record {
   consistent = tt;
   ended = λ o j le e. absurd (none o (subst (λ (i : ℕ). latest r o.by i ≡ Some o) (zero_of j le) e.runs));
@@ -117,5 +117,5 @@ no_calls {K} order first m = record {
     none : (o : Op K) → ◌≡◌ {A = Option (Op K)} None (Some o) → ⊥
     none o q = let z : ◌≡◌ {A = ℕ} 0 1 = cc in omega arith
 
-pub bites : {K : Type 0} (order : K → K → Order) → Bites order
+pub bites : {K : Type 0} (order : K → K → Ordering) → Bites order
 bites order = record { no_yes_without_a_link = no_yes; no_full_with_nodes_free = no_full; honest_is_met = fine; empty_list_is_met = no_calls order }

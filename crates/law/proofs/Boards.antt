@@ -3,7 +3,7 @@ use Rattle.std.proofs.Common.{◌≡◌, ℕ, zero, suc, true, ◌⊎◌, List, 
 use Rattle.std.specs.List.{slice_get}
 use Rattle.std.specs.Result.{result_ok}
 use Rattle.std.proofs.lemmas.Bool.{cases_eq}
-use Rattle.order.specs.declared.key.Order.{Order}
+use Rattle.std.specs.declared.cmp.Ordering.{Ordering}
 use Rattle.nodes.specs.declared.call.Call.{Call}
 use Rattle.nodes.specs.declared.call.Call.TheVariants.{Start, Step, Collect, Count}
 use Rattle.nodes.specs.declared.call.Outcome.TheVariants.{Started, Stepped, Collected, Refused}
@@ -152,7 +152,7 @@ module _ {K : Type 0} where
       go None p = absurd (let f : answer_of Idle ≡ Some a = sym (ap answer_of (own p)) ∙ e in let z : ◌≡◌ {A = ℕ} 0 1 = cc in omega arith)
       go (Some o) p = (o, p)
 
-module _ {K : Type 0} (order : K → K → Order) (m : Memory K) (cs : List (Call K)) where
+module _ {K : Type 0} (order : K → K → Ordering) (m : Memory K) (cs : List (Call K)) where
   -- the memory after n calls, and the stages then
   abbrev M : ℕ → Memory K
   M n = memory_at order m cs n
@@ -308,7 +308,7 @@ module _ {K : Type 0} where
   fresh_rest (d ∷ cs) zero = refl
   fresh_rest (d ∷ cs) (suc w) = fresh_rest cs w
 
-pub history_from_moves : {K : Type 0} (order : K → K → Order) → HistoryFromMoves order
+pub history_from_moves : {K : Type 0} (order : K → K → Ordering) → HistoryFromMoves order
 history_from_moves order first m cs mv =
     linearized (run_of order (fresh first m) cs) (λ n w. stage_at (memory_at order (fresh first m) cs n) w)
     (ledger order (fresh first m) cs mv (fresh_graph m.nodes) (fresh_rest m.controllers) (λ w c e _. (fresh_none m.controllers w c e).1))

@@ -1,6 +1,6 @@
 -- The history of the worked schedule, by computation.
 use Rattle.std.proofs.Common.{◌≡◌, ℕ, ◌⊎◌, Some, None, sym, refl, ap, ◌∙◌, inl, inr, arith}
-use Rattle.order.specs.Orders.{numbered}
+use Rattle.std.specs.Ordering.{nat_cmp}
 use Rattle.nodes.specs.declared.controller.JobRef.{JobRef}
 use Rattle.rules.specs.Graph.{key_at}
 use Rattle.rules.specs.Machine.{machine}
@@ -76,18 +76,18 @@ right = (
   ),
 )
 
-last_graph : Same (replayed 43 empty explained) (graph_of (memory_at numbered fresh8 two_adding 43).nodes)
+last_graph : Same (replayed 43 empty explained) (graph_of (memory_at nat_cmp fresh8 two_adding 43).nodes)
 unfolding machine
 last_graph = record { job = λ k. (to k, from k); wait = λ a b. (λ w. absurd w, λ x. absurd x.wait) }
   where
-    to : (k : ℕ) → (⊥ ⊎ (k ≡ 5)) ⊎ (k ≡ 7) → JobIn (memory_at numbered fresh8 two_adding 43).nodes k
+    to : (k : ℕ) → (⊥ ⊎ (k ≡ 5)) ⊎ (k ≡ 7) → JobIn (memory_at nat_cmp fresh8 two_adding 43).nodes k
     to k (inl (inl x)) = absurd x
     to k (inl (inr e)) = (_, inl refl, ap Some (sym e))
     to k (inr e) = (_, inr (inl refl), ap Some (sym e))
 
-    from : (k : ℕ) → JobIn (memory_at numbered fresh8 two_adding 43).nodes k → (⊥ ⊎ (k ≡ 5)) ⊎ (k ≡ 7)
-    from k (j, inl p, e) = let q : Some 5 ≡ Some k = sym (ap (λ (x : JobRef). key_at (memory_at numbered fresh8 two_adding 43).nodes x.node) p) ∙ e in inl (inr (sym (some_same q)))
-    from k (j, inr (inl p), e) = let q : Some 7 ≡ Some k = sym (ap (λ (x : JobRef). key_at (memory_at numbered fresh8 two_adding 43).nodes x.node) p) ∙ e in inr (sym (some_same q))
+    from : (k : ℕ) → JobIn (memory_at nat_cmp fresh8 two_adding 43).nodes k → (⊥ ⊎ (k ≡ 5)) ⊎ (k ≡ 7)
+    from k (j, inl p, e) = let q : Some 5 ≡ Some k = sym (ap (λ (x : JobRef). key_at (memory_at nat_cmp fresh8 two_adding 43).nodes x.node) p) ∙ e in inl (inr (sym (some_same q)))
+    from k (j, inr (inl p), e) = let q : Some 7 ≡ Some k = sym (ap (λ (x : JobRef). key_at (memory_at nat_cmp fresh8 two_adding 43).nodes x.node) p) ∙ e in inr (sym (some_same q))
     from k (j, inr (inr x), e) = absurd x
 
 -- the two jobs

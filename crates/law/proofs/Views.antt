@@ -1,7 +1,7 @@
 -- What a call can have done: refused, with the memory as it was, or taken.
 use Rattle.std.proofs.Common.{◌≡◌, ℕ, zero, suc, Bool, true, false, eqb, ◌⊎◌, List, [], ◌∷◌, set, Some, None, Ok, Err, Option, refl, ap, ◌∙◌, inl, inr, arith}
 use Rattle.std.specs.List.{slice_get}
-use Rattle.order.specs.declared.key.Order.{Order}
+use Rattle.std.specs.declared.cmp.Ordering.{Ordering}
 use Rattle.nodes.specs.declared.call.StepOutcome.{StepOutcome}
 use Rattle.nodes.specs.declared.call.StepOutcome.TheVariants.{Waiting}
 use Rattle.nodes.specs.declared.controller.Answer.{Answer}
@@ -127,10 +127,10 @@ module _ {K : Type 0} (m : Memory K) where
     pub operation : after.operation ≡ before.operation
     pub others : (d : ℕ) → (d ≡ w → ⊥) → slice_get n.controllers d ≡ slice_get m.controllers d
 
-  abbrev pub Steps : (K → K → Order) → ℕ → Type 0
+  abbrev pub Steps : (K → K → Ordering) → ℕ → Type 0
   Steps order w = (s : StepOutcome) × (n : Memory K) × (stepped order w m ≡ (Ok s, n)) × Took w n
 
-  pub step_view : (order : K → K → Order) (w : ℕ) → Refuses (stepped order w m) ⊎ Steps order w
+  pub step_view : (order : K → K → Ordering) (w : ℕ) → Refuses (stepped order w m) ⊎ Steps order w
   unfolding stepped
   step_view order w = from (for_view w (λ c. by_running order m w c (is_running c.phase)))
     where

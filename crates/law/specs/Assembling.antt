@@ -3,7 +3,7 @@
 --     Moves m cs              the sizes stay, and every step of the run that is taken makes one of the moves of a ledger
 --     HistoryFromMoves        if so, on any fresh board and for any list of calls, the history exists
 use Rattle.std.specs.Prelude.{◌≡◌, ℕ, suc, true, List, length}
-use Rattle.order.specs.declared.key.Order.{Order}
+use Rattle.std.specs.declared.cmp.Ordering.{Ordering}
 use Rattle.nodes.specs.declared.call.Call.{Call}
 use Rattle.nodes.specs.declared.call.Call.TheVariants.{Step}
 use Rattle.nodes.specs.declared.call.Outcome.TheVariants.{Stepped}
@@ -16,7 +16,7 @@ use Rattle.law.specs.Ledger.{Went}
 use Rattle.law.specs.Ledger.{Stage.owed, Stage.done}
 use Rattle.law.specs.Readings.{stage_at, call_at, memory_at, outcome_at, run_of}
 
-module _ {K : Type 0} (order : K → K → Order) where
+module _ {K : Type 0} (order : K → K → Ordering) where
   module _ (m : Memory K) (cs : List (Call K)) where
     abbrev pub Goes : ℕ → ℕ → StepOutcome → Type 0
     Goes n w Moved = Went (run_of order m cs) n w (stage_at (memory_at order m cs n) w) (stage_at (memory_at order m cs (suc n)) w)

@@ -3,7 +3,7 @@
 --     honest              call 1 starts to add job 5, and call 2 adds it and finishes with yes
 --     Bites               the first has no history with yes, nor with full; the second has one; and a run of no calls has the empty one
 use Rattle.std.specs.Prelude.{ℕ, zero, suc, [], Some}
-use Rattle.order.specs.declared.key.Order.{Order}
+use Rattle.std.specs.declared.cmp.Ordering.{Ordering}
 use Rattle.nodes.specs.declared.controller.Answer.{Answer}
 use Rattle.nodes.specs.declared.controller.Answer.TheVariants.{Yes, Full}
 use Rattle.nodes.specs.declared.controller.Operation.TheVariants.{AddJob}
@@ -32,7 +32,7 @@ graphs (suc (suc n)) = changed empty add5
 abbrev pub honest : Run ℕ
 honest = record { event = events; graph = graphs; present = λ i x y. ⊥; keyed = λ i x k. ⊥; found = λ i c x y. ⊥; free = λ i. 7; handing = λ i c. Some Yes }
 
-pub record Bites {K : Type 0} (order : K → K → Order) : Type 0 where
+pub record Bites {K : Type 0} (order : K → K → Ordering) : Type 0 where
   pub no_yes_without_a_link : Linearizes (idle_worker Yes) 2 → ⊥
   pub no_full_with_nodes_free : Linearizes (idle_worker Full) 2 → ⊥
   pub honest_is_met : (n : ℕ) → Linearizes honest n

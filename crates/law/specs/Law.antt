@@ -13,7 +13,7 @@
 --     Lawful                  all of them, for a kind with its laws, every memory that fits, first ticket and list of calls
 use Rattle.std.specs.Prelude.{◌≡◌, ℕ, zero, suc, ◌+◌, ◌*◌, ◌<◌, ◌≤◌, true, false, ◌⊎◌, List, [], ◌∷◌, length, Some, None, Ok, ◌==◌, ◌≢◌, nat_le}
 use Rattle.std.specs.List.{slice_get}
-use Rattle.order.specs.declared.key.Order.{Order}
+use Rattle.std.specs.declared.cmp.Ordering.{Ordering}
 use Rattle.order.specs.Lists.{rising}
 use Rattle.order.specs.Orders.{OrderLaws}
 use Rattle.nodes.specs.declared.call.Call.{Call}
@@ -79,7 +79,7 @@ module _ {K : Type 0} where
   abbrev pub MainSentinel : List (Node K) → Type 0
   MainSentinel ns = (x : Node K) × (node_at ns 0 ≡ Some x) × (x.kind ≡ Sentinel) × (x.retired ≡ None)
 
-  abbrev pub KeysRise : (K → K → Order) → List (Node K) → Type 0
+  abbrev pub KeysRise : (K → K → Ordering) → List (Node K) → Type 0
   KeysRise order ns =
       MainSentinel ns × (
       (i : ℕ) (x : Node K) → node_at ns i ≡ Some x → x.kind ≡ Sentinel → x.retired ≡ None →
@@ -91,7 +91,7 @@ module _ {K : Type 0} where
   -- ---- an operation alone
 
   -- steps of controller w that all move, the last of which finishes
-  pub data FinishesAlone (order : K → K → Order) (w : ℕ) : Memory K → Answer → Type 0 where
+  pub data FinishesAlone (order : K → K → Ordering) (w : ℕ) : Memory K → Answer → Type 0 where
     last : {m n o : Memory K} {a : Answer} → calls.stepped order w m ≡ (Ok Finished, n) → calls.collected w n ≡ (Ok a, o) → FinishesAlone order w m a
     more : {m n : Memory K} {a : Answer} → calls.stepped order w m ≡ (Ok Moved, n) → FinishesAlone order w n a → FinishesAlone order w m a
 
@@ -114,7 +114,7 @@ module _ {K : Type 0} where
         | HasWait ↦ ((a ≡ Yes) × G.wait u v) ⊎ ((a ≡ No) × (G.wait u v → ⊥))
       ]
 
-  abbrev pub Alone : (K → K → Order) → Memory K → Type 0
+  abbrev pub Alone : (K → K → Ordering) → Memory K → Type 0
   Alone order m =
       (w : ℕ) (o : Operation) (u v : K) (n : Memory K) → calls.started w (code_of o) u v m ≡ (Ok tt, n) →
       (a : Answer) × FinishesAlone order w n a × ByTable (graph_of m.nodes) (length (free_nodes m)) (record { operation = o; u = u; v = v }) a
@@ -134,7 +134,7 @@ module _ {K : Type 0} where
 
   -- ---- the promises
 
-  pub record Promises (order : K → K → Order) (m : Memory K) (cs : List (Call K)) : Type 0 where
+  pub record Promises (order : K → K → Ordering) (m : Memory K) (cs : List (Call K)) : Type 0 where
     -- soundness, after every call
     pub standing_waits_close_no_circle : (n : ℕ) → n ≤ length cs → NoCircle (memory_at order m cs n).nodes
     pub keys_rise_along_chains : (n : ℕ) → n ≤ length cs → KeysRise order (memory_at order m cs n).nodes
@@ -160,8 +160,8 @@ module _ {K : Type 0} where
     -- alone
     pub alone_by_the_table : (n : ℕ) → n ≤ length cs → all_idle (memory_at order m cs n) → Alone order (memory_at order m cs n)
 
-  abbrev pub Law : (K → K → Order) → ℕ → Memory K → List (Call K) → Type 0
+  abbrev pub Law : (K → K → Ordering) → ℕ → Memory K → List (Call K) → Type 0
   Law order first m cs = Promises order (fresh first m) cs
 
-abbrev pub Lawful : {K : Type 0} → (K → K → Order) → Type 0
+abbrev pub Lawful : {K : Type 0} → (K → K → Ordering) → Type 0
 Lawful {K} order = OrderLaws order → (first : ℕ) (m : Memory K) (cs : List (Call K)) → 1 ≤ first → fits m ≡ true → Law order first m cs

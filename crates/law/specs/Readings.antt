@@ -12,7 +12,7 @@
 use Rattle.std.specs.Prelude.{◌≡◌, ℕ, zero, suc, ◌⊎◌, List, [], ◌∷◌, length, Some, None, Option}
 use Rattle.std.specs.List.{slice_get}
 use Rattle.std.specs.Result.{result_ok}
-use Rattle.order.specs.declared.key.Order.{Order}
+use Rattle.std.specs.declared.cmp.Ordering.{Ordering}
 use Rattle.nodes.specs.declared.call.Call.{Call}
 use Rattle.nodes.specs.declared.call.Call.TheVariants.{Start, Step, Collect, Count}
 use Rattle.nodes.specs.declared.call.Outcome.{Outcome}
@@ -158,7 +158,7 @@ module _ {K : Type 0} where
   call_at (c ∷ cs) zero = c
   call_at (c ∷ cs) (suc i) = call_at cs i
 
-  module _ (order : K → K → Order) where
+  module _ (order : K → K → Ordering) where
     abbrev pub memory_at : Memory K → List (Call K) → ℕ → Memory K
     memory_at m cs zero = m
     memory_at m cs (suc i) = (called order (call_at cs i) (memory_at m cs i)).1

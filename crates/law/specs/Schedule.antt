@@ -4,7 +4,7 @@
 --     ScheduleExplained   the entries are right, each ends with the answer that collect gives, there is a row behind each circle, and in
 --                         the end the entries give the graph
 use Rattle.std.specs.Prelude.{◌≡◌, ℕ, zero, suc, ◌≤◌, List, [], ◌∷◌, ◌++◌, replicate, Some}
-use Rattle.order.specs.Orders.{numbered}
+use Rattle.std.specs.Ordering.{nat_cmp}
 use Rattle.nodes.specs.declared.call.Call.{Call}
 use Rattle.nodes.specs.declared.call.Call.TheVariants.{Start, Step, Collect}
 use Rattle.nodes.specs.declared.controller.Answer.{Answer}
@@ -25,7 +25,7 @@ two_adding =
     ++ (Collect 0 ∷ Start 0 4 5 7 ∷ Start 1 4 7 5 ∷ in_turn 12) ++ (Collect 0 ∷ Collect 1 ∷ [])
 
 abbrev pub schedule_run : Run ℕ
-schedule_run = run_of numbered fresh8 two_adding
+schedule_run = run_of nat_cmp fresh8 two_adding
 
 abbrev pub entry : ℕ → ℕ → Operation → ℕ → ℕ → Answer → ℕ → Entry ℕ
 entry start by o u v a point = record { op = record { start = start; by = by; request = record { operation = o; u = u; v = v } }; answer = a; point = point }
@@ -61,4 +61,4 @@ pub record ScheduleExplained : Type 0 where
   pub wait75_ends : EndsAt wait75 41
   pub row_behind_wait57 : Behind schedule_run wait57.op.request 0 16 40
   pub row_behind_wait75 : Behind schedule_run wait75.op.request 1 17 41
-  pub graph_in_the_end : Same (replayed 43 empty explained) (graph_of (memory_at numbered fresh8 two_adding 43).nodes)
+  pub graph_in_the_end : Same (replayed 43 empty explained) (graph_of (memory_at nat_cmp fresh8 two_adding 43).nodes)

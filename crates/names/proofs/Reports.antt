@@ -1,7 +1,7 @@
 -- One line more of a report, and one key or fault more that is counted.
 use Rattle.std.proofs.Common.{◌≡◌, ℕ, ◌+◌, ◌<◌, ◌≤◌, Bool, cond, List, [], ◌++◌, length, get_or, drop, Some, Option, sym, ap, ◌∙◌, subst, append_assoc, append-nil}
 use Rattle.std.proofs.lemmas.List.{at_drop_more, at_drop_all}
-use Rattle.order.specs.declared.key.Order.{Order}
+use Rattle.std.specs.declared.cmp.Ordering.{Ordering}
 use Rattle.names.specs.declared.listing.LineFault.{LineFault}
 use Rattle.names.specs.declared.name.Fault.{Fault}
 use Rattle.names.specs.Reports.{one_if_refused, refused_count, fault_line, fault_lines, repeats, doubles, name_line, name_lines}
@@ -22,7 +22,7 @@ module _ (fs : List LineFault) (i : ℕ) (d : LineFault) (here : i < length fs) 
 pub no_fault_left : (fs : List LineFault) (i : ℕ) (expected out : List ℕ) → length fs ≤ i → out ++ fault_lines expected (drop i fs) ≡ out
 no_fault_left fs i expected out past = at_drop_all (λ l. out ++ fault_lines expected l) fs i past ∙ append-nil out
 
-module _ {K : Type 0} (order : K → K → Order) (ks : List K) (i : ℕ) where
+module _ {K : Type 0} (order : K → K → Ordering) (ks : List K) (i : ℕ) where
   module _ (k : K) (here : i < length ks) (read : k ≡ get_or ks i k) where
     pub doubles_more : (p : Option K) → doubles order p (drop i ks) ≡ cond (repeats order p k) 1 0 + doubles order (Some k) (drop (i + 1) ks)
     doubles_more p = at_drop_more (doubles order p) ks i k here ∙ ap (λ j. cond (repeats order p j) 1 0 + doubles order (Some j) (drop (i + 1) ks)) (sym read)

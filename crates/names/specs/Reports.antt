@@ -12,11 +12,10 @@
 --     TellsBy h ls bs           bs tells of the names behind the heading h, or what is wrong with the first line
 --     Tells text bs           bs tells of the names that text lists, or what is wrong with its first line
 use Rattle.std.specs.Prelude.{◌≡◌, ℕ, ◌+◌, ◌-◌, Bool, true, false, cond, List, [], ◌∷◌, ◌++◌, length, drop, Some, None, Ok, Err, codes, decimal, Option, Result}
-use Rattle.order.specs.declared.key.Order.{Order}
-use Rattle.order.specs.declared.key.Order.TheVariants.{Before, Same, After}
+use Rattle.std.specs.declared.cmp.Ordering.{Ordering}
 use Rattle.order.specs.Addresses.{refusal_number}
 use Rattle.order.specs.Lists.{Arranged}
-use Rattle.order.specs.Orders.{numbered}
+use Rattle.std.specs.Ordering.{is_eq, nat_cmp}
 use Rattle.order.specs.Rows.{row_order}
 use Rattle.names.specs.declared.heading.Heading.{Heading}
 use Rattle.names.specs.declared.heading.HeadingFault.{HeadingFault}
@@ -49,11 +48,6 @@ abbrev pub fault_lines : List ℕ → List LineFault → List ℕ
 fault_lines expected [] = []
 fault_lines expected (f ∷ fs) = fault_line expected f ++ fault_lines expected fs
 
-abbrev pub is_same : Order → Bool
-is_same Before = false
-is_same Same = true
-is_same After = false
-
 abbrev pub mark : Bool → List ℕ
 mark double = cond double (codes " double") []
 
@@ -64,10 +58,10 @@ summary ns ds rs us =
 abbrev pub name_line : {K : Type 0} → (K → List ℕ) → ℕ → Bool → K → List ℕ
 name_line written n double k = decimal n ++ (codes ": " ++ (written k ++ (mark double ++ codes "\n")))
 
-module _ {K : Type 0} (order : K → K → Order) where
+module _ {K : Type 0} (order : K → K → Ordering) where
   abbrev pub repeats : Option K → K → Bool
   repeats None k = false
-  repeats (Some p) k = is_same (order p k)
+  repeats (Some p) k = is_eq (order p k)
 
   abbrev pub doubles : Option K → List K → ℕ
   doubles p [] = 0
@@ -87,7 +81,7 @@ module _ {K : Type 0} (order : K → K → Order) where
     pub is : bs ≡ told written expected keys (faults named (n + 1) (drop n ls))
 
 abbrev pub TellsUnder : NameKind → ℕ → List (List ℕ) → List ℕ → Type 0
-TellsUnder Numbers n ls bs = Reported numbered number_named number_written number_expected n ls bs
+TellsUnder Numbers n ls bs = Reported nat_cmp number_named number_written number_expected n ls bs
 TellsUnder Addresses n ls bs = Reported row_order row_named row_written row_expected n ls bs
 
 abbrev pub TellsBy : Result Heading HeadingFault → List (List ℕ) → List ℕ → Type 0

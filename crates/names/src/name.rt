@@ -81,7 +81,7 @@ impl Name for Row {
             return Err(Fault::Unreadable);
         };
         let address = Address::new(*aisle, *bay, *level)?;
-        Ok(address.row())
+        Ok(Row::from(address))
     }
 
     fn write(self, heap: Global) -> Result<String, AllocError> {

@@ -6,7 +6,7 @@ use crate::heading::{Heading, NameKind, find_heading};
 use crate::listing::{LineFault, read_lines};
 use crate::name::{Fault, Name};
 use crate::text::lines;
-use order::key::{Key, Order};
+use order::key::Key;
 use order::lists::arrange;
 use order::row::Row;
 use std::alloc::{AllocError, Global};
@@ -15,14 +15,7 @@ use std::alloc::{AllocError, Global};
 fn repeats<K: Key>(previous: Option<K>, key: K) -> bool
     ensures { result ≡ repeats_key K.order previous key }
 {
-    match previous {
-        None => false,
-        Some(previous) => match previous.compare(key) {
-            Order::Before => false,
-            Order::Same => true,
-            Order::After => false,
-        },
-    }
+    previous.is_some_and(|previous| previous.compare(key).is_eq())
 }
 
 // The line for one fault.

@@ -8,8 +8,8 @@
 --     job_ref i k         a job, by node, generation and sentinel
 --     traversed c at w    what a step from the node at finds, where w is the key that is looked for
 use Rattle.std.specs.Prelude.{ℕ, Bool, true, false, ◌&&◌, ◌||◌, List, Some, None, Option, ◌==◌}
-use Rattle.order.specs.declared.key.Order.{Order}
-use Rattle.order.specs.declared.key.Order.TheVariants.{Before, Same, After}
+use Rattle.std.specs.declared.cmp.Ordering.{Ordering}
+use Rattle.std.specs.declared.cmp.Ordering.TheVariants.{Less, Equal, Greater}
 use Rattle.nodes.specs.declared.controller.JobRef.{JobRef}
 use Rattle.nodes.specs.declared.node.Node.{Node}
 use Rattle.nodes.specs.declared.node.Kind.{Kind}
@@ -74,12 +74,12 @@ job_ref i Sentinel = None
 job_ref i (Job g s r) = Some (record { node = i; generation = g; sentinel = s })
 job_ref i (Wait g t s) = None
 
-abbrev pub by_order : Order → ℕ → ℕ → Traversed
-by_order Before at n = Stand n
-by_order Same at n = Arrive (at, Some n)
-by_order After at n = Arrive (at, Some n)
+abbrev pub by_order : Ordering → ℕ → ℕ → Traversed
+by_order Less at n = Stand n
+by_order Equal at n = Arrive (at, Some n)
+by_order Greater at n = Arrive (at, Some n)
 
-module _ {K : Type 0} (order : K → K → Order) where
+module _ {K : Type 0} (order : K → K → Ordering) where
   abbrev pub onto : List (Node K) → Chain → ℕ → K → Option ℕ → Option Traversed
   onto ns c at wanted None = Some (Arrive (at, None))
   onto ns c at wanted (Some n) = node_at ns n >>= λ y. when (in_chain c y.kind) (Some (by_order (order y.key wanted) at n))

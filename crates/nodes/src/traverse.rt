@@ -6,7 +6,8 @@ ghost use Rattle.nodes.specs.Chains.{in_chain, heads as is_head, chain_of, trave
 use crate::access::read;
 use crate::node::{Kind, Node};
 use crate::refusal::Damage;
-use order::key::{Key, Order};
+use order::key::Key;
+use std::cmp::Ordering;
 
 // Which chain: that of the jobs, or one of waits.
 #[derive(Clone, Copy)]
@@ -82,8 +83,8 @@ pub fn traverse<K: Key>(
         return Err(Damage);
     }
     match next.key.compare(wanted) {
-        Order::Before => Ok(Traversed::Stand(n)),
-        Order::Same => Ok(Traversed::Arrive((at, Some(n)))),
-        Order::After => Ok(Traversed::Arrive((at, Some(n)))),
+        Ordering::Less => Ok(Traversed::Stand(n)),
+        Ordering::Equal => Ok(Traversed::Arrive((at, Some(n)))),
+        Ordering::Greater => Ok(Traversed::Arrive((at, Some(n)))),
     }
 }

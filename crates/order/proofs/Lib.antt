@@ -1,1 +1,2 @@
-pub mod Arranging
+mod Arranging
+mod Rising

@@ -1,5 +1,4 @@
 pub mod Addresses
 pub mod Lists
 pub mod Orders
-pub mod Ranks
 pub mod Rows

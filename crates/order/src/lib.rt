@@ -5,5 +5,4 @@ pub mod address;
 pub mod key;
 pub mod lists;
 pub mod number;
-mod ranked;
 pub mod row;

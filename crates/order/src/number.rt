@@ -1,21 +1,16 @@
 // Job numbers as keys.
-ghost use Rattle.order.specs.Orders.{numbered};
+ghost use Rattle.std.specs.Ordering.{nat_cmp};
 ghost use Rattle.std.proofs.Common.{rules};
 
-use crate::key::{Key, Order, compare_numbers};
+use crate::key::Key;
+use std::cmp::Ordering;
 
 impl Key for u32 {
-    ghost order = { numbered };
+    ghost order = { nat_cmp };
 
-    ghost itself = { Prim.search rules };
+    ghost laws = { Prim.search rules };
 
-    ghost equal = { Prim.search rules };
-
-    ghost turns = { Prim.search rules };
-
-    ghost carries = { Prim.search rules };
-
-    fn compare(self, other: u32) -> Order {
-        compare_numbers(self, other)
+    fn compare(self, other: u32) -> Ordering {
+        self.cmp(&other)
     }
 }

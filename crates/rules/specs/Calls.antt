@@ -9,7 +9,7 @@
 --     collect: size, controller, answer; count: size, count
 use Rattle.std.specs.Prelude.{ℕ, ◌+◌, Bool, true, false, not, ◌&&◌, List, [], ◌∷◌, length, Some, None, Ok, Err, Option, Result, ◌==◌, nat_lt, slice_set}
 use Rattle.std.specs.List.{slice_get}
-use Rattle.order.specs.declared.key.Order.{Order}
+use Rattle.std.specs.declared.cmp.Ordering.{Ordering}
 use Rattle.nodes.specs.declared.call.StepOutcome.{StepOutcome}
 use Rattle.nodes.specs.declared.call.StepOutcome as outcomes
 use Rattle.nodes.specs.declared.call.StepOutcome.TheVariants.{Moved, Waiting}
@@ -143,11 +143,11 @@ module _ {K : Type 0} where
   by_decision m w c (Some (Take e k p)) = by_nodes m w c k p (applied w m.header.next_ticket e m.nodes)
 
   -- does an operation run
-  abbrev pub by_running : (K → K → Order) → Memory K → ℕ → Controller K → Bool → ResultOf StepOutcome K
+  abbrev pub by_running : (K → K → Ordering) → Memory K → ℕ → Controller K → Bool → ResultOf StepOutcome K
   by_running order m w c false = refused m Resting
   by_running order m w c true = by_decision m w c (decide order m w c c.phase)
 
-  unfoldable pub stepped : (K → K → Order) → ℕ → Memory K → ResultOf StepOutcome K
+  unfoldable pub stepped : (K → K → Ordering) → ℕ → Memory K → ResultOf StepOutcome K
   stepped order w m = for_controller m w (λ c. by_running order m w c (is_running c.phase))
 
   -- ---- collect

@@ -1,6 +1,6 @@
 -- What a step decides, by the phase of its controller. None is damage. Assumes nothing.
 use Rattle.std.specs.Prelude.{ℕ, None, Option}
-use Rattle.order.specs.declared.key.Order.{Order}
+use Rattle.std.specs.declared.cmp.Ordering.{Ordering}
 use Rattle.nodes.specs.declared.controller.Controller.{Controller}
 use Rattle.nodes.specs.declared.controller.Phase.{Phase}
 use Rattle.nodes.specs.declared.controller.Phase.TheVariants.{Idle, Find, Locate, LockFirst, LockSecond, Validate, Explore, Unlink, Unlock, NextJob, Finished}
@@ -13,7 +13,7 @@ use Rattle.rules.specs.Lock.{lock_first, lock_second}
 use Rattle.rules.specs.Release.{unlink_step, unlock_step}
 use Rattle.rules.specs.Validate.{validate}
 
-module _ {K : Type 0} (order : K → K → Order) where
+module _ {K : Type 0} (order : K → K → Ordering) where
   abbrev pub decide : Memory K → ℕ → Controller K → Phase → Option (Decision K)
   decide m w c Idle = None
   decide m w c (Find l at) = find order m.nodes c l at

@@ -7,12 +7,12 @@
 --     stands_at s v         the second node s of a pair is a committed wait to v
 --     find c l at           a step for the goal l, standing on the node at
 use Rattle.std.specs.Prelude.{ℕ, Bool, true, false, cond, not, ◌&&◌, List, Some, None, Option}
-use Rattle.order.specs.declared.key.Order.{Order}
+use Rattle.std.specs.declared.cmp.Ordering.{Ordering}
 use Rattle.nodes.specs.declared.controller.Controller.{Controller}
 use Rattle.nodes.specs.declared.controller.JobRef.{JobRef}
 use Rattle.nodes.specs.declared.controller.Phase.{Phase}
 use Rattle.nodes.specs.declared.node.Node.{Node}
-use Rattle.order.specs.declared.key.Order.TheVariants.{Before, Same, After}
+use Rattle.std.specs.declared.cmp.Ordering.TheVariants.{Less, Equal, Greater}
 use Rattle.nodes.specs.declared.controller.Answer.TheVariants.{Yes, No}
 use Rattle.nodes.specs.declared.controller.Edit.TheVariants.{AddWait, RemoveWait}
 use Rattle.nodes.specs.declared.controller.Goal.{Goal}
@@ -65,10 +65,10 @@ on_second a u (Some v) = on_wait a u v
 abbrev pub unremoved : ℕ → Kind → Option JobRef
 unremoved i k = cond (is_removed k) None (job_ref i k)
 
-abbrev pub is_same : Order → Bool
-is_same Before = false
-is_same Same = true
-is_same After = false
+abbrev pub is_same : Ordering → Bool
+is_same Less = false
+is_same Equal = true
+is_same Greater = false
 
 abbrev pub is_committed : Kind → Bool
 is_committed Vacant = false
@@ -91,7 +91,7 @@ module _ {K : Type 0} where
       gone ns u >>= λ a. gone ns v >>= λ b. stands_at ns s v >>= λ t.
       Some (Finished (cond (not a && (not b && t)) Yes No))
 
-  module _ (order : K → K → Order) where
+  module _ (order : K → K → Ordering) where
     abbrev pub is_key : List (Node K) → Option ℕ → K → Option Bool
     is_key ns None w = Some false
     is_key ns (Some n) w = node_at ns n >>= λ y. Some (is_same (order y.key w))

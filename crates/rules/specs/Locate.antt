@@ -5,7 +5,7 @@
 --     locate c e at       a step of the edit e, standing on the node at
 --     next_job j at       the step from one job to the next, while the waits to the job j are swept up
 use Rattle.std.specs.Prelude.{ℕ, List, Some, None, Option}
-use Rattle.order.specs.declared.key.Order.{Order}
+use Rattle.std.specs.declared.cmp.Ordering.{Ordering}
 use Rattle.nodes.specs.declared.controller.Controller.{Controller}
 use Rattle.nodes.specs.declared.controller.JobRef.{JobRef}
 use Rattle.nodes.specs.declared.node.Node.{Node}
@@ -63,7 +63,7 @@ module _ {K : Type 0} where
   unfoldable pub next_job : List (Node K) → JobRef → ℕ → Option (Decision K)
   next_job ns j at = node_at ns at >>= λ x. when (heads Jobs x.kind) (onto_job ns j x.next)
 
-  module _ (order : K → K → Order) where
+  module _ (order : K → K → Ordering) where
     abbrev pub locate_key : List (Node K) → Controller K → Edit → ℕ → Option (Decision K)
     locate_key ns c e at =
         traversed order ns (edit_chain e) at (edit_key c e) >>= λ t.

@@ -3,7 +3,7 @@
 --     run cs m            the outcome and the memory after each call of a list
 --     last_of m ps        the memory after the last call
 use Rattle.std.specs.Prelude.{List, [], ◌∷◌, Ok, Err, Result}
-use Rattle.order.specs.declared.key.Order.{Order}
+use Rattle.std.specs.declared.cmp.Ordering.{Ordering}
 use Rattle.nodes.specs.declared.call.Call.{Call}
 use Rattle.nodes.specs.declared.call.Call.TheVariants.{Start, Step, Collect, Count}
 use Rattle.nodes.specs.declared.call.Outcome.{Outcome}
@@ -16,7 +16,7 @@ abbrev pub or_refused : {R : Type 0} → (R → Outcome) → Result R Refusal �
 or_refused f (Ok r) = f r
 or_refused f (Err e) = Refused e
 
-module _ {K : Type 0} (order : K → K → Order) where
+module _ {K : Type 0} (order : K → K → Ordering) where
   abbrev pub called : Call K → Memory K → Outcome × Memory K
   called (Start w code u v) m = let r = started w code u v m in (or_refused (λ _. Started) r.0, r.1)
   called (Step w) m = let r = stepped order w m in (or_refused Stepped r.0, r.1)

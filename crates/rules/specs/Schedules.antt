@@ -7,7 +7,7 @@ use Rattle.std.specs.Prelude.{◌≡◌, ℕ, zero, suc, replicate, Some, None, 
 use Rattle.std.specs.Result.{result_ok}
 use Rattle.order.specs.declared.address.making.NoPlace.{NoPlace as Displaced}
 use Rattle.order.specs.Addresses.{placed}
-use Rattle.order.specs.Orders.{numbered}
+use Rattle.std.specs.Ordering.{nat_cmp}
 use Rattle.nodes.specs.declared.call.StepOutcome.TheVariants.{Waiting}
 use Rattle.nodes.specs.declared.controller.Answer.TheVariants.{Yes, No}
 use Rattle.nodes.specs.declared.controller.Operation.TheVariants.{AddJob, AddWait}
@@ -22,7 +22,7 @@ use Rattle.rules.specs.Worked.{board, vacant_node, idle_controller, ok, does, th
 
 abbrev pub steps : ℕ → ℕ → Memory ℕ → Option (Memory ℕ)
 steps zero w m = Some m
-steps (suc k) w m = ok (stepped numbered w m) >>= λ r. steps k w r.1
+steps (suc k) w m = ok (stepped nat_cmp w m) >>= λ r. steps k w r.1
 
 -- controller w runs to its end
 abbrev pub ends : ℕ → Memory ℕ → Option (Memory ℕ)
@@ -76,7 +76,7 @@ one_started = starts 0 3 5 0 (board 8 2 4294967294)
 
 pub record FurtherStates : Type 0 where
   pub commit_looks_again : both_ended removed_while_exploring ≡ Some ((No, Yes), (1, 0, 5))
-  pub tentative_is_locked : (behind_tentative >>= λ m. result_ok (stepped numbered 1 m).0) ≡ Some Waiting
+  pub tentative_is_locked : (behind_tentative >>= λ m. result_ok (stepped nat_cmp 1 m).0) ≡ Some Waiting
   pub generations_differ : (added_again >>= counts) ≡ Some (2, 1, 6)
   pub misfit : says (started 0 1 5 0 unfit) ≡ Some 1
   pub bad_first : says (set_up 0 fresh8) ≡ Some 2
@@ -84,8 +84,8 @@ pub record FurtherStates : Type 0 where
   pub busy : (starts 0 3 5 0 fresh8 >>= λ m. says (started 0 3 5 0 m)) ≡ Some 4
   pub unknown : says (started 0 7 5 0 fresh8) ≡ Some 5
   pub worn_out : (one_started >>= λ m. says (started 1 3 5 0 m)) ≡ Some 6
-  pub resting : says (stepped numbered 0 fresh8) ≡ Some 7
+  pub resting : says (stepped nat_cmp 0 fresh8) ≡ Some 7
   pub unfinished : says (collected 0 fresh8) ≡ Some 8
-  pub damage_in_step : (starts 0 3 5 0 broken >>= λ m. says (stepped numbered 0 m)) ≡ Some 9
+  pub damage_in_step : (starts 0 3 5 0 broken >>= λ m. says (stepped nat_cmp 0 m)) ≡ Some 9
   pub damage_in_count : says (counted broken) ≡ Some 9
   pub no_place : refusal_of (placed 1 1 31) ≡ Some 10

@@ -6,7 +6,7 @@
 --     apply c e p            the edit e on the pair p
 --     validate c e p         the step
 use Rattle.std.specs.Prelude.{ℕ, Bool, true, false, not, ◌&&◌, ◌||◌, List, length, Some, None, Option}
-use Rattle.order.specs.declared.key.Order.{Order}
+use Rattle.std.specs.declared.cmp.Ordering.{Ordering}
 use Rattle.nodes.specs.declared.controller.Controller.{Controller}
 use Rattle.nodes.specs.declared.controller.JobRef.{JobRef}
 use Rattle.nodes.specs.declared.node.Node.{Node}
@@ -88,7 +88,7 @@ module _ {K : Type 0} where
       node_at ns p.0 >>= λ x. when (heads c x.kind) (is_gone ns c p.1 >>= λ b.
       Some (not (is_removed x.kind) && (not b && same_number x.next p.1)))
 
-  module _ (order : K → K → Order) where
+  module _ (order : K → K → Ordering) where
     unfoldable pub add_job : List (Controller K) → List (Node K) → Controller K → ℕ × Option ℕ → Option (Decision K)
     add_job cs ns c p =
         is_key order ns p.1 c.u >>= λ t.

@@ -9,7 +9,7 @@
 use Rattle.std.specs.Prelude.{◌≡◌, ℕ, zero, suc, ◌*◌, Bool, true, false, ◌||◌, replicate, Some, None, Option, Result}
 use Rattle.std.specs.List.{slice_get}
 use Rattle.std.specs.Result.{result_ok}
-use Rattle.order.specs.Orders.{numbered}
+use Rattle.std.specs.Ordering.{nat_cmp}
 use Rattle.nodes.specs.declared.call.StepOutcome.TheVariants.{Moved, Waiting, Finished}
 use Rattle.nodes.specs.declared.controller.Answer.{Answer}
 use Rattle.nodes.specs.declared.controller.Answer.TheVariants.{Yes, No, Circle, Full}
@@ -48,7 +48,7 @@ pub record Done : Type 0 where
 abbrev pub finish : ℕ → Memory ℕ → ℕ → ℕ → Option (ℕ × Memory ℕ)
 finish zero m w n = None
 finish (suc f) m w n =
-    ok (stepped numbered w m) >>= λ r.
+    ok (stepped nat_cmp w m) >>= λ r.
     elim r.0 [ Moved ↦ finish f r.1 w (suc n) | Waiting ↦ None | Finished ↦ Some (suc n, r.1) ]
 
 abbrev pub does : Memory ℕ → ℕ → Operation → ℕ → ℕ → Option Done
@@ -96,7 +96,7 @@ runs_at m w = elim (slice_get m.controllers w) [ None ↦ false | Some c ↦ is_
 
 -- a step of controller w, or nothing where it is refused
 abbrev pub turn : ℕ → Memory ℕ → Memory ℕ
-turn w m = (stepped numbered w m).1
+turn w m = (stepped nat_cmp w m).1
 
 abbrev pub in_turn : ℕ → Memory ℕ → Memory ℕ
 in_turn zero m = m
@@ -115,7 +115,7 @@ two_waits = jobs57 >>= λ d. ok (started 0 4 5 7 d.after) >>= λ s. ok (started 
 -- a lookup of 7 has taken one step; then controller 1 removes 5, and then 7
 abbrev pub held : Option (Memory ℕ)
 held =
-    jobs57 >>= λ d. ok (started 0 3 7 0 d.after) >>= λ s. ok (stepped numbered 0 s.1) >>= λ t.
+    jobs57 >>= λ d. ok (started 0 3 7 0 d.after) >>= λ s. ok (stepped nat_cmp 0 s.1) >>= λ t.
     then (does t.1 1 RemoveJob 5 0) 1 RemoveJob 7 0 >>= λ e. Some e.after
 
 abbrev pub released : Option (Answer × (ℕ × ℕ × ℕ))

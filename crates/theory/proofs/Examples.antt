@@ -1,8 +1,8 @@
 -- The definitions at work on small lists and chains.
 use Rattle.std.proofs.Common.{◌≡◌, ℕ, zero, suc, ◌<◌, ltb, Some, sym, refl, ap, ◌∙◌, subst, inl, inr, arith}
 use Rattle.std.proofs.lemmas.Bool.{ltb-true}
-use Rattle.order.specs.declared.key.Order.TheVariants.{Before}
-use Rattle.order.specs.Orders.{numbered}
+use Rattle.std.specs.declared.cmp.Ordering.TheVariants.{Less}
+use Rattle.std.specs.Ordering.{nat_cmp}
 use Rattle.theory.specs.Chains.{OnlyAt}
 use Rattle.theory.specs.Fields.{field}
 use Rattle.theory.specs.Reach.{Reach.here, Reach.onward}
@@ -27,8 +27,8 @@ unlinked_else (suc (suc zero)) k ne = refl
 unlinked_else (suc (suc (suc zero))) k ne = refl
 unlinked_else (suc (suc (suc (suc n)))) k ne = refl
 
-stops_at_two : (y : ℕ) → Some 2 ≡ Some y → numbered y 2 ≡ Before → ⊥
-stops_at_two y e b = before_not_same (subst (λ k. numbered k 2 ≡ Before) (sym (some_same e)) b) refl
+stops_at_two : (y : ℕ) → Some 2 ≡ Some y → nat_cmp y 2 ≡ Less → ⊥
+stops_at_two y e b = before_not_same (subst (λ k. nat_cmp k 2 ≡ Less) (sym (some_same e)) b) refl
 
 -- nothing follows 2
 no_way_from_two : (a b : ℕ) → a ≡ 2 → Leads (λ x y. three x ≡ Some y) a b → ⊥

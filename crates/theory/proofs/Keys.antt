@@ -1,9 +1,10 @@
 -- Keys along chains: a list in which each number stands before the one that follows it rises and has no number twice; where a key
 -- stands in a rising list is where a traversal arrives; the greatest key of a list.
 use Rattle.std.proofs.Common.{◌≡◌, ℕ, true, ◌⊎◌, List, [], ◌∷◌, map, Some, Option, sym, refl, ap, ◌∙◌, subst, inl, inr}
-use Rattle.order.specs.declared.key.Order.{Order}
-use Rattle.order.specs.declared.key.Order.TheVariants.{Before}
-use Rattle.order.specs.Lists.{is_before, rises_after, rising}
+use Rattle.std.specs.declared.cmp.Ordering.{Ordering}
+use Rattle.std.specs.declared.cmp.Ordering.TheVariants.{Less}
+use Rattle.order.specs.Lists.{rises_after, rising}
+use Rattle.std.specs.Ordering.{is_lt}
 use Rattle.order.specs.Orders.{OrderLaws}
 use Rattle.theory.specs.Chains.{Linked}
 use Rattle.theory.specs.Keys.{KeyBefore, Rises, Greatest, Arrives}
@@ -31,17 +32,17 @@ module _ (next : ℕ → Option ℕ) (R : ℕ → ℕ → Type 0) where
 
 -- ---- keys of a rising list, as a list
 
-module _ {K : Type 0} (order : K → K → Order) {A : Type 0} (key : A → K) where
+module _ {K : Type 0} (order : K → K → Ordering) {A : Type 0} (key : A → K) where
   rising_behind : (x : A) (l : List A) → Rises order key (x ∷ l) → rises_after order (Some (key x)) (map key l) ≡ true
   rising_behind x [] h = refl
-  rising_behind x (y ∷ l) h = rw (ap is_before h.0.0) (rising_behind y l h.1)
+  rising_behind x (y ∷ l) h = rw (ap is_lt h.0.0) (rising_behind y l h.1)
 
   -- the keys of a rising list rise, as the kind of key tells it
   pub rising_keys : (l : List A) → Rises order key l → rising order (map key l) ≡ true
   rising_keys [] h = refl
   rising_keys (x ∷ l) h = rising_behind x l h
 
-module _ {K : Type 0} (order : K → K → Order) (laws : OrderLaws order) where
+module _ {K : Type 0} (order : K → K → Ordering) (laws : OrderLaws order) where
   -- ---- rising lists
 
   module _ {A : Type 0} (key : A → K) where
@@ -64,24 +65,24 @@ module _ {K : Type 0} (order : K → K → Order) (laws : OrderLaws order) where
 
   module _ (key : ℕ → K) (next : ℕ → Option ℕ) (w : K) where
     abbrev Stops : Option ℕ → Type 0
-    Stops q = (y : ℕ) → q ≡ Some y → order (key y) w ≡ Before → ⊥
+    Stops q = (y : ℕ) → q ≡ Some y → order (key y) w ≡ Less → ⊥
 
     -- where the first key of a list is not before w, the key w stands first or nowhere
     stands_first : (q : Option ℕ) (l : List ℕ) → Linked next q l → Rises order key l → Stops q → (i : ℕ) → In i l → key i ≡ w → q ≡ Some i
     stands_first q [] h r s i m e = absurd m
     stands_first q (j ∷ l) h r s i (inl p) e = h.0 ∙ ap Some (sym p)
     stands_first q (j ∷ l) h r s i (inr m) e =
-        absurd (s j h.0 (subst (λ k. order (key j) k ≡ Before) e (all_in (KeyBefore order key j) i l r.0 m)))
+        absurd (s j h.0 (subst (λ k. order (key j) k ≡ Less) e (all_in (KeyBefore order key j) i l r.0 m)))
 
     -- behind p, whose key is before w, the key w stands next or nowhere
-    stands_next : (p : ℕ) → order (key p) w ≡ Before → Stops (next p) → (o : Option ℕ) (l : List ℕ) → Linked next o l → Rises order key l → In p l →
+    stands_next : (p : ℕ) → order (key p) w ≡ Less → Stops (next p) → (o : Option ℕ) (l : List ℕ) → Linked next o l → Rises order key l → In p l →
         (i : ℕ) → In i l → key i ≡ w → next p ≡ Some i
     stands_next p b s o [] h r m i k e = absurd m
     stands_next p b s o (j ∷ l) h r (inl u) i (inl v) e = absurd (not_before_equal order laws (key p) w (ap key (u ∙ sym v) ∙ e) b)
     stands_next p b s o (j ∷ l) h r (inl u) i (inr k) e = stands_first (next p) l (rw u h.1) r.1 s i k e
     stands_next p b s o (j ∷ l) h r (inr m) i (inl v) e =
-        let jp : order (key j) (key p) ≡ Before = all_in (KeyBefore order key j) p l r.0 m in
-        absurd (not_both_before order laws w (key p) (subst (λ k. order k (key p) ≡ Before) (ap key (sym v) ∙ e) jp) b)
+        let jp : order (key j) (key p) ≡ Less = all_in (KeyBefore order key j) p l r.0 m in
+        absurd (not_both_before order laws w (key p) (subst (λ k. order k (key p) ≡ Less) (ap key (sym v) ∙ e) jp) b)
     stands_next p b s o (j ∷ l) h r (inr m) i (inr k) e = stands_next p b s (next j) l h.1 r.1 m i k e
 
     module _ (s : ℕ) (l : List ℕ) (p : ℕ) (q : Option ℕ) (h : Linked next (next s) l) (a : Arrives order key next s l w p q) where
@@ -92,7 +93,7 @@ module _ {K : Type 0} (order : K → K → Order) (laws : OrderLaws order) where
           stops : Stops (next p)
           stops y n = a.stops y (sym a.follows ∙ n)
 
-          go : (p ≡ s) ⊎ (In p l × (order (key p) w ≡ Before)) → next p ≡ Some i
+          go : (p ≡ s) ⊎ (In p l × (order (key p) w ≡ Less)) → next p ≡ Some i
           go (inl u) = stands_first (next p) l (rw u h) r stops i m e
           go (inr u) = stands_next p u.1 stops (next s) l h r u.0 i m e
 
@@ -100,7 +101,7 @@ module _ {K : Type 0} (order : K → K → Order) (laws : OrderLaws order) where
       pub arrives_in : (y : ℕ) → q ≡ Some y → In y l
       arrives_in y e = linked_next next s l h p y (a.follows ∙ e) (place a.stands)
         where
-          place : (p ≡ s) ⊎ (In p l × (order (key p) w ≡ Before)) → In p (s ∷ l)
+          place : (p ≡ s) ⊎ (In p l × (order (key p) w ≡ Less)) → In p (s ∷ l)
           place (inl u) = inl u
           place (inr u) = inr u.0
 

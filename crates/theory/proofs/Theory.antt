@@ -2,7 +2,7 @@
 use Rattle.std.proofs.Common.{◌≡◌, true}
 use Rattle.std.proofs.lemmas.Bool.{both_ways}
 use Rattle.std.proofs.lemmas.List.Concat.{length-flat_map}
-use Rattle.order.specs.declared.key.Order.{Order}
+use Rattle.std.specs.declared.cmp.Ordering.{Ordering}
 use Rattle.order.specs.Orders.{OrderLaws}
 use Rattle.theory.specs.Keys.{KeyBefore}
 use Rattle.theory.specs.Theory.{Passes, ChainFacts, ReachFacts, WayFacts, CountFacts, FieldFacts, KeyFacts}
@@ -60,7 +60,7 @@ field_facts = record {
   same_where_rewritten = field_writes_equal;
 }
 
-pub key_facts : {K : Type 0} (order : K → K → Order) → OrderLaws order → {A : Type 0} → KeyFacts order A
+pub key_facts : {K : Type 0} (order : K → K → Ordering) → OrderLaws order → {A : Type 0} → KeyFacts order A
 key_facts order laws = record {
   rising_from_neighbours = λ key next o l h near.
       let rises = pairwise_from_next next (KeyBefore order key) (λ x y z. laws.carries (key x) (key y) (key z)) o l h near in

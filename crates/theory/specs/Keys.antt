@@ -6,13 +6,13 @@
 --                                l with a key before w; q follows p, and is none or has a key that is not before w
 use Rattle.std.specs.Prelude.{◌≡◌, ℕ, ◌⊎◌, List, Some, Option, ◌≢◌}
 use Rattle.std.specs.List.{AllByRecursion}
-use Rattle.order.specs.declared.key.Order.{Order}
-use Rattle.order.specs.declared.key.Order.TheVariants.{Before}
+use Rattle.std.specs.declared.cmp.Ordering.{Ordering}
+use Rattle.std.specs.declared.cmp.Ordering.TheVariants.{Less}
 use Rattle.theory.specs.Lists.{In, Pairwise}
 
-module _ {K : Type 0} (order : K → K → Order) {A : Type 0} (key : A → K) where
+module _ {K : Type 0} (order : K → K → Ordering) {A : Type 0} (key : A → K) where
   abbrev pub KeyBefore : A → A → Type 0
-  KeyBefore i j = order (key i) (key j) ≡ Before
+  KeyBefore i j = order (key i) (key j) ≡ Less
 
   abbrev pub Rises : List A → Type 0
   Rises l = Pairwise KeyBefore l
@@ -21,7 +21,7 @@ module _ {K : Type 0} (order : K → K → Order) {A : Type 0} (key : A → K) w
     pub member : In g l
     pub none_after : AllByRecursion (λ x. KeyBefore g x → ⊥) l
 
-pub record Arrives {K : Type 0} (order : K → K → Order) (key : ℕ → K) (next : ℕ → Option ℕ) (s : ℕ) (l : List ℕ) (w : K) (p : ℕ) (q : Option ℕ) : Type 0 where
-  pub stands : (p ≡ s) ⊎ (In p l × (order (key p) w ≡ Before))
+pub record Arrives {K : Type 0} (order : K → K → Ordering) (key : ℕ → K) (next : ℕ → Option ℕ) (s : ℕ) (l : List ℕ) (w : K) (p : ℕ) (q : Option ℕ) : Type 0 where
+  pub stands : (p ≡ s) ⊎ (In p l × (order (key p) w ≡ Less))
   pub follows : next p ≡ q
-  pub stops : (y : ℕ) → q ≡ Some y → order (key y) w ≢ Before
+  pub stops : (y : ℕ) → q ≡ Some y → order (key y) w ≢ Less

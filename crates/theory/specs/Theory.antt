@@ -10,9 +10,9 @@
 --     Examples              the definitions at work on small lists, and on the chains three, four and three_again
 use Rattle.std.specs.Prelude.{◌≡◌, ℕ, zero, suc, ◌<◌, ◌≤◌, Bool, true, false, ◌⊎◌, ◌↔◌, List, [], ◌∷◌, map, length, Some, None, sum_by, Option, ◌≢◌, nat_lt}
 use Rattle.std.specs.List.{flat_map, AllByRecursion}
-use Rattle.order.specs.declared.key.Order.{Order}
+use Rattle.std.specs.declared.cmp.Ordering.{Ordering}
 use Rattle.order.specs.Lists.{rising}
-use Rattle.order.specs.Orders.{numbered}
+use Rattle.std.specs.Ordering.{nat_cmp}
 use Rattle.theory.specs.Chains.{Linked, AllKept, Closed, OnlyAt, Links, Unlinks}
 use Rattle.theory.specs.Counts.{Meets, count}
 use Rattle.theory.specs.Fields.{field, writes, places, Rewrites}
@@ -88,7 +88,7 @@ pub record FieldFacts (A B : Type 0) : Type 0 where
   pub same_where_rewritten :
       (f : A → B) (d : B) (l : List A) (ws : List (ℕ × A)) (j : ℕ) → AllByRecursion (Rewrites f d l j) ws → field f d (writes l ws) j ≡ field f d l j
 
-pub record KeyFacts {K : Type 0} (order : K → K → Order) (A : Type 0) : Type 0 where
+pub record KeyFacts {K : Type 0} (order : K → K → Ordering) (A : Type 0) : Type 0 where
   pub rising_from_neighbours :
       (key : ℕ → K) (next : ℕ → Option ℕ) (o : Option ℕ) (l : List ℕ) → Linked next o l →
       ((x y : ℕ) → In x l → next x ≡ Some y → KeyBefore order key x y) → Rises order key l × (rising order (map key l) ≡ true)
@@ -140,5 +140,5 @@ pub record Examples : Type 0 where
   pub chain_after : Linked three_again (three_again 0) (1 ∷ 2 ∷ [])
   pub last_is_ahead : Ahead four 0 2
   pub last_is_not_ahead_of_itself : Ahead four 2 2 → ⊥
-  pub arrives_behind_one : Arrives numbered (λ i. i) three 0 (1 ∷ 2 ∷ []) 2 1 (Some 2)
+  pub arrives_behind_one : Arrives nat_cmp (λ i. i) three 0 (1 ∷ 2 ∷ []) 2 1 (Some 2)
   pub one_way_only : Leads (λ x y. three x ≡ Some y) 0 2 × (Leads (λ x y. three x ≡ Some y) 2 0 → ⊥)

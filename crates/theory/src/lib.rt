@@ -5,11 +5,12 @@
 ghost use Rattle.std.specs.Prelude.{◌≡◌};
 ghost use Rattle.theory.specs.Theory.{ChainFacts, ReachFacts, WayFacts, CountFacts, FieldFacts, KeyFacts, Examples};
 
-use order::key::{Key, Order};
+use order::key::Key;
+use std::cmp::Ordering;
 
 // How two keys of a kind stand to each other. The value only carries the contract, which adds the central facts
 // of this crate: for this kind of key, for elements of any type `A`, and for fields of any type `B`.
-pub fn theory_holds<K: Key, A, B>(first: K, second: K) -> Order
+pub fn theory_holds<K: Key, A, B>(first: K, second: K) -> Ordering
     ensures value { result ≡ K.order first second }
     ensures chains { ChainFacts }
     ensures reachability { ReachFacts }

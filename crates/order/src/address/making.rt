@@ -6,7 +6,7 @@ use super::Address;
 use crate::row::Row;
 
 // The refusal 'no place': no address has these numbers.
-#[derive(Clone, Copy)]
+#[derive(Clone, Copy, PartialEq, Eq, Debug)]
 pub struct NoPlace;
 
 impl NoPlace {
@@ -23,7 +23,7 @@ impl Address {
     pub fn new(aisle: u32, bay: u32, level: u32) -> Result<Address, NoPlace>
         ensures { rows_of result ≡ placed aisle bay level }
     {
-        if 1 <= aisle && aisle <= 99 && 1 <= bay && bay <= 999 && 1 <= level && level <= 30 {
+        if (1..=99).contains(&aisle) && (1..=999).contains(&bay) && (1..=30).contains(&level) {
             Ok(Address {
                 aisle: aisle as u8,
                 bay: bay as u16,
@@ -33,15 +33,17 @@ impl Address {
             Err(NoPlace)
         }
     }
+}
 
-    // The bare numbers, with nothing to test.
-    pub fn row(self) -> Row
-        ensures { result ≡ row_of self }
-    {
+// The bare numbers, with nothing to test.
+impl From<Address> for Row {
+    ghost from_gives = { λ address row. row ≡ row_of address };
+
+    fn from(address: Address) -> Row {
         Row {
-            aisle: self.aisle,
-            bay: self.bay,
-            level: self.level,
+            aisle: address.aisle,
+            bay: address.bay,
+            level: address.level,
         }
     }
 }
