@@ -7,7 +7,7 @@ use crate::text::{numbers, words};
 use std::alloc::{AllocError, Global};
 
 // A line that gives no name: its number in the text, from 1, and why.
-#[derive(Clone, Copy)]
+#[derive(Clone, Copy, PartialEq, Eq, Debug)]
 pub struct LineFault {
     pub line: usize,
     pub fault: Fault,
