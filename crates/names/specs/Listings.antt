@@ -4,7 +4,7 @@
 --     fault_of n e      the fault that the line with the number n gave, if it gave one
 --     names ls          the names that the lines give, in their order
 --     faults n ls       the faults of the lines, the first of which has the number n
-use Rattle.std.specs.Prelude.{ℕ, ◌+◌, List, [], ◌∷◌, Some, None, Ok, Err, Option, Result}
+use Rattle.std.specs.Prelude.{ℕ, List, [], ◌∷◌, Some, None, Ok, Err, Option, Result}
 use Rattle.std.specs.List.{enumerate_from, flat_map}
 use Rattle.names.specs.declared.name.Fault.{Fault}
 use Rattle.names.specs.declared.name.Fault.TheVariants.{Unreadable}

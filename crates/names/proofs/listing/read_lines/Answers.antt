@@ -10,7 +10,7 @@ returns g c =
     let ls = c.args.lines.now in
     let n = c.args.from in
     let walk = YieldsList-at c.into_iter-i-iterator.ensures.into_iter_gives (YieldsList-from_skip n (YieldsList-at c.skip-i-items.ensures.source (YieldsList-from_enumerate (YieldsList-at c.enumerate.ensures.source (YieldsList-from_slice ls c.iter.ensures.rest)) c.enumerate.ensures.count)) c.skip-i-items.ensures.count) in
-    let all = (YieldsList-end walk c.loop-i.yielded _ c.loop-i.yielded_by _ _ c.in-None.is c.next.ensures.steps).0 in
+    let all = (YieldsList-end walk c.loop-i.yielded c.loop-i.i-iterator c.loop-i.yielded_by c.next.result c.next.new.self c.in-None.is c.next.ensures.steps).0 in
     record {
       names = c.loop-i.invariant.names ∙ names_read g.K.Name.named ls n c.loop-i.yielded all;
       faults = c.loop-i.invariant.faults ∙ faults_read g.K.Name.named ls n c.loop-i.yielded all;

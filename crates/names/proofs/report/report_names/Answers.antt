@@ -1,7 +1,6 @@
-use Rattle.std.proofs.Common.{◌≡◌, vec_items, string_bytes, sym, ap, ◌∙◌, rules}
+use Rattle.std.proofs.Common.{vec_items, rules}
 use Rattle.std.proofs.lemmas.List.{drop-map}
 use Rattle.std.proofs.lemmas.Result.{IfOk-weaker}
-use Rattle.names.specs.Reports.{told, Reported}
 use Rattle.names.proofs.report.report_names.Goals as goal
 
 pub returns : goal.returns

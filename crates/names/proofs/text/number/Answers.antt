@@ -1,6 +1,6 @@
 use Rattle.std.proofs.Common.{sym, ◌∙◌, rules, tests}
 use Rattle.std.proofs.lemmas.Iterator.{YieldsList-from_slice}
-use Rattle.names.proofs.Numbers.{word_read, by_length}
+use Rattle.names.proofs.Digits.{word_read, by_length}
 use Rattle.names.proofs.text.number.Goals as goal
 
 pub returns : goal.returns
