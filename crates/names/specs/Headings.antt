@@ -5,6 +5,7 @@
 --                         where the first of the lines has the index n
 --     complaint e         what is told of a list whose first line says no kind
 use Rattle.std.specs.Prelude.{ℕ, ◌+◌, cond, List, [], ◌∷◌, Some, None, Ok, Err, codes, Option, Result}
+use Rattle.std.specs.Result.{result_map_both}
 use Rattle.std.specs.Str.{bytes_eq}
 use Rattle.names.specs.declared.heading.NameKind.{NameKind}
 use Rattle.names.specs.declared.heading.NameKind.TheVariants.{Numbers, Addresses}
@@ -21,13 +22,9 @@ heading_line [] = None
 heading_line (w ∷ []) = Some (heading_word w)
 heading_line (w ∷ v ∷ ws) = Some (Err Unknown)
 
-abbrev pub heading : Result NameKind HeadingFault → ℕ → Result Heading HeadingFault
-heading (Ok k) n = Ok (record { kind = k; behind = n })
-heading (Err e) n = Err e
-
 abbrev pub headed : ℕ → List (List ℕ) → Result Heading HeadingFault
 headed n [] = Err Missing
-headed n (l ∷ ls) = elim (heading_line (words l)) [ None ↦ headed (n + 1) ls | Some said ↦ heading said (n + 1) ]
+headed n (l ∷ ls) = elim (heading_line (words l)) [ None ↦ headed (n + 1) ls | Some said ↦ result_map_both (λ k. record { kind = k; behind = n + 1 }) (λ e. e) said ]
 
 abbrev pub complaint : HeadingFault → List ℕ
 complaint Missing = codes "The first line is missing: it says numbers or addresses."

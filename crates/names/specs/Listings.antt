@@ -5,6 +5,7 @@
 --     names ls          the names that the lines give, in their order
 --     faults n ls       the faults of the lines, the first of which has the number n
 use Rattle.std.specs.Prelude.{ℕ, List, [], ◌∷◌, Some, None, Ok, Err, Option, Result}
+use Rattle.std.specs.Result.{result_map_both}
 use Rattle.std.specs.List.{enumerate_from, flat_map}
 use Rattle.names.specs.declared.name.Fault.{Fault}
 use Rattle.names.specs.declared.name.Fault.TheVariants.{Unreadable}
@@ -12,10 +13,6 @@ use Rattle.names.specs.declared.listing.LineFault.{LineFault}
 use Rattle.names.specs.Text.{words, numbers}
 
 module _ {K : Type 0} where
-  abbrev pub filled_line : Result K Fault → Result (Option K) Fault
-  filled_line (Ok k) = Ok (Some k)
-  filled_line (Err e) = Err e
-
   abbrev pub name_of : Result (Option K) Fault → List K
   name_of (Ok None) = []
   name_of (Ok (Some k)) = k ∷ []
@@ -29,7 +26,7 @@ module _ {K : Type 0} (named : List ℕ → Result K Fault) where
   abbrev pub of_numbers : Option (List ℕ) → Result (Option K) Fault
   of_numbers None = Err Unreadable
   of_numbers (Some []) = Ok None
-  of_numbers (Some (n ∷ ns)) = filled_line (named (n ∷ ns))
+  of_numbers (Some (n ∷ ns)) = result_map_both Some (λ e. e) (named (n ∷ ns))
 
   abbrev pub entry : List ℕ → Result (Option K) Fault
   entry l = of_numbers (numbers (words l))

@@ -8,6 +8,7 @@
 --     numbers ws          the numbers that the words write, if each writes one
 use Rattle.std.specs.Prelude.{ℕ, ◌+◌, ◌-◌, ◌*◌, ◌^◌, Bool, true, false, not, ◌&&◌, ◌||◌, List, [], ◌∷◌, filter, length, Some, None, Option, ◌==◌, nat_le, nat_lt}
 use Rattle.std.specs.List.{slice_split}
+use Rattle.std.specs.Option.{option_map, option_zip}
 
 abbrev pub lines : List ℕ → List (List ℕ)
 lines bs = slice_split (λ b. b == 10) bs
@@ -29,11 +30,6 @@ abbrev pub number : List ℕ → Option ℕ
 number [] = None
 number (b ∷ bs) = read_on 0 (b ∷ bs)
 
-abbrev pub and_then : Option ℕ → Option (List ℕ) → Option (List ℕ)
-and_then None ns = None
-and_then (Some n) None = None
-and_then (Some n) (Some ns) = Some (n ∷ ns)
-
 abbrev pub numbers : List (List ℕ) → Option (List ℕ)
 numbers [] = Some []
-numbers (w ∷ ws) = and_then (number w) (numbers ws)
+numbers (w ∷ ws) = option_map (λ both. both.0 ∷ both.1) (option_zip (number w) (numbers ws))
