@@ -69,7 +69,8 @@ fn read_words(words: &[&[u8]]) -> Option<Result<NameKind, HeadingFault>>
     }
 }
 
-// The heading that the first line with a word on it gives. The outer error is want of memory.
+// The heading that the first line with a word on it gives. The outer error is want of memory: it ends
+// the call, and a fault is told, so one error enum of both would have to be taken apart again.
 pub(crate) fn find_heading(
     heap: Global,
     lines: &[&[u8]],

@@ -20,7 +20,8 @@ pub struct Listing<K> {
     pub faults: Vec<LineFault>,
 }
 
-// What one line gives. The outer error is want of memory.
+// What one line gives. The outer error is want of memory: it ends the reading, and a fault does not,
+// so one error enum of both would have to be taken apart again.
 fn entry<K: Name>(heap: Global, line: &[u8]) -> Result<Result<Option<K>, Fault>, AllocError>
     ensures { IfOk result (λ e. e ≡ entry_on K.named line.now) }
 {
@@ -35,18 +36,15 @@ fn entry<K: Name>(heap: Global, line: &[u8]) -> Result<Result<Option<K>, Fault>,
 }
 
 impl<K: Name> Listing<K> {
-    // Adds what the line of this number gives.
-    fn note(&mut self, number: usize, entry: Result<Option<K>, Fault>) -> Result<(), AllocError>
+    // Adds what the line with this number gives.
+    fn note(&mut self, line: usize, entry: Result<Option<K>, Fault>) -> Result<(), AllocError>
         ensures names { OnOk result (self.new.names.items ≡ self.old.names.items ++ name_of entry) }
-        ensures faults { OnOk result (self.new.faults.items ≡ self.old.faults.items ++ fault_of number entry) }
+        ensures faults { OnOk result (self.new.faults.items ≡ self.old.faults.items ++ fault_of line entry) }
     {
         match entry {
             Ok(None) => {}
             Ok(Some(k)) => self.names.push(k)?,
-            Err(fault) => {
-                let line = number;
-                self.faults.push(LineFault { line, fault })?;
-            }
+            Err(fault) => self.faults.push(LineFault { line, fault })?,
         }
         Ok(())
     }

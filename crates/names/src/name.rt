@@ -33,7 +33,7 @@ pub trait Name: Key + Display {
 
     ghost expected: { List ℕ };
 
-    // The key that these numbers name.
+    // The key that these numbers name. No `TryFrom`, since `u32` is not ours to give one.
     fn from_numbers(numbers: &[u32]) -> Result<Self, Fault>
         ensures { result ≡ named numbers.now };
 

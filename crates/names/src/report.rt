@@ -19,7 +19,7 @@ fn repeats<K: Key>(previous: Option<K>, key: K) -> bool
     previous.is_some_and(|previous| previous.compare(key).is_eq())
 }
 
-// Adds the line for one fault.
+// Adds the line for one fault. No `Display` of the fault, since what was expected hangs on the kind.
 fn push_fault(out: &mut String, fault: LineFault, expected: &str) -> Result<(), AllocError>
     ensures { OnOk result (string_bytes out.new ≡ string_bytes out.old ++ fault_line expected.now fault) }
 {
@@ -95,6 +95,7 @@ struct Summary {
 }
 
 impl Summary {
+    // The summary of a list of names in order, and of its faults.
     fn of<K: Key>(keys: &[K], faults: &[LineFault]) -> Summary
         ensures { result ≡ summed K.order keys.now faults.now }
     {
