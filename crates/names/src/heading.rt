@@ -69,8 +69,8 @@ fn read_words(words: &[&[u8]]) -> Option<Result<NameKind, HeadingFault>>
     }
 }
 
-// The heading that the first line with a word on it gives. The outer error is want of memory: it ends
-// the call, and a fault is told, so one error enum of both would have to be taken apart again.
+// The heading that the first line with a word on it gives, under want of memory.
+// One error enum of both is no plainer: a fault is told, and only want of memory is handed on.
 pub(crate) fn find_heading(
     heap: Global,
     lines: &[&[u8]],

@@ -20,8 +20,8 @@ pub struct Listing<K> {
     pub faults: Vec<LineFault>,
 }
 
-// What one line gives. The outer error is want of memory: it ends the reading, and a fault does not,
-// so one error enum of both would have to be taken apart again.
+// What one line gives, under want of memory.
+// One error enum of both is no plainer: a fault is noted, and only want of memory ends the reading.
 fn entry<K: Name>(heap: Global, line: &[u8]) -> Result<Result<Option<K>, Fault>, AllocError>
     ensures { IfOk result (λ e. e ≡ entry_on K.named line.now) }
 {

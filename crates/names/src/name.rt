@@ -33,7 +33,8 @@ pub trait Name: Key + Display {
 
     ghost expected: { List ℕ };
 
-    // The key that these numbers name. No `TryFrom`, since `u32` is not ours to give one.
+    // The key that these numbers name.
+    // Not a `TryFrom`, since `u32` is the library's, and its impls are too.
     fn from_numbers(numbers: &[u32]) -> Result<Self, Fault>
         ensures { result ≡ named numbers.now };
 

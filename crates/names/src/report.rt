@@ -19,7 +19,8 @@ fn repeats<K: Key>(previous: Option<K>, key: K) -> bool
     previous.is_some_and(|previous| previous.compare(key).is_eq())
 }
 
-// Adds the line for one fault. No `Display` of the fault, since what was expected hangs on the kind.
+// Adds the line for one fault.
+// Not a `Display` of the fault, since what was expected hangs on the kind of names.
 fn push_fault(out: &mut String, fault: LineFault, expected: &str) -> Result<(), AllocError>
     ensures { OnOk result (string_bytes out.new ≡ string_bytes out.old ++ fault_line expected.now fault) }
 {

@@ -48,8 +48,8 @@ pub(crate) fn number(word: &[u8]) -> Option<u32>
     word.iter().try_fold(0, |n, b| push_digit(n, *b))
 }
 
-// The numbers that these words write, if each writes one. A loop, since of a `collect` into an `Option`
-// the library does not say that it fails where an item does.
+// The numbers that these words write, if each writes one.
+// A loop: of a `collect` into an `Option` the library does not say that it fails where an item does.
 pub(crate) fn numbers(heap: Global, words: &[&[u8]]) -> Result<Option<Vec<u32>>, AllocError>
     ensures { IfOk result (λ o. option_map vec_items o ≡ numbers_in (map (λ x. x.now) words.now)) }
 {
