@@ -1,5 +1,2 @@
-pub mod Headings
 pub mod Listings
-pub mod Numbers
-pub mod Reports
-pub mod Texts
+pub mod Digits

@@ -1,45 +1,32 @@
--- One line more of a list that is read.
-use Rattle.std.proofs.Common.{◌≡◌, ℕ, ◌+◌, ◌<◌, ◌≤◌, List, [], ◌∷◌, ◌++◌, map, length, get_or, drop, Some, None, Ok, Err, Option, Result, sym, ap, ◌∙◌, append_assoc, append-nil, Bor}
-use Rattle.std.proofs.lemmas.List.{at_drop_more, at_drop_all}
+-- What the lines of a list give, read from the lines with their indexes.
+use Rattle.std.proofs.Common.{◌≡◌, ℕ, ◌+◌, zero, suc, List, [], ◌∷◌, ◌++◌, map, drop, Result, sym, refl, ap, ◌∙◌, arith, zero-add, Bor}
+use Rattle.std.specs.List.{enumerate_from, flat_map}
+use Rattle.std.proofs.lemmas.List.Folds.{flat_map-map}
 use Rattle.names.specs.declared.name.Fault.{Fault}
-use Rattle.names.specs.declared.listing.LineFault.{LineFault}
-use Rattle.names.specs.Listings.{name_added, fault_added, entry, names, faults}
+use Rattle.names.specs.Listings.{entry, name_of, fault_of, names, faults}
 
-module _ {K : Type 0} where
-  name_behind : (ks : List K) (e : Result (Option K) Fault) (rest : List K) → (ks ++ name_added e []) ++ rest ≡ ks ++ name_added e rest
-  name_behind ks (Ok None) rest = append_assoc ks [] rest
-  name_behind ks (Ok (Some k)) rest = append_assoc ks (k ∷ []) rest
-  name_behind ks (Err e) rest = append_assoc ks [] rest
+drop_enumerated : {X : Type 0} (n k : ℕ) (xs : List X) → drop n (enumerate_from k xs) ≡ enumerate_from (k + n) (drop n xs)
+drop_enumerated zero k xs = ap (λ m. enumerate_from m xs) (omega arith)
+drop_enumerated (suc n) k [] = refl
+drop_enumerated (suc n) k (x ∷ xs) = drop_enumerated n (k + 1) xs ∙ ap (λ m. enumerate_from m (drop n xs)) (omega arith)
 
-  fault_behind : (n : ℕ) (fs : List LineFault) (e : Result (Option K) Fault) (rest : List LineFault) → (fs ++ fault_added n e []) ++ rest ≡ fs ++ fault_added n e rest
-  fault_behind n fs (Ok o) rest = append_assoc fs [] rest
-  fault_behind n fs (Err e) rest = append_assoc fs (record { line = n; fault = e } ∷ []) rest
+module _ {X Y A : Type 0} (v : X → Y) where
+  without_index : (h : Y → List A) (k : ℕ) (xs : List X) → flat_map (λ p. h (v p.1)) (enumerate_from k xs) ≡ flat_map h (map v xs)
+  without_index h k [] = refl
+  without_index h k (x ∷ xs) = ap (λ l. h (v x) ++ l) (without_index h (k + 1) xs)
 
-module _ {K : Type 0} (named : List ℕ → Result K Fault) (ls : List (Bor (List ℕ))) where
-  -- the names and the faults so far, with those that the lines from i on give
-  abbrev pub names_from : List K → ℕ → List K
-  names_from ks i = ks ++ names named (map (λ x. x.now) (drop i ls))
+  index_by_one : (h : ℕ → Y → List A) (k : ℕ) (xs : List X) → flat_map (λ p. h (p.0 + 1) (v p.1)) (enumerate_from k xs) ≡ flat_map (λ p. h p.0 p.1) (enumerate_from (k + 1) (map v xs))
+  index_by_one h k [] = refl
+  index_by_one h k (x ∷ xs) = ap (λ l. h (k + 1) (v x) ++ l) (index_by_one h (k + 1) xs)
 
-  abbrev pub faults_from : List LineFault → ℕ → List LineFault
-  faults_from fs i = fs ++ faults named (i + 1) (map (λ x. x.now) (drop i ls))
+-- seen are the lines from n on, with their indexes
+module _ {K : Type 0} (named : List ℕ → Result K Fault) (ls : List (Bor (List ℕ))) (n : ℕ) (seen : List (ℕ × Bor (Bor (List ℕ)))) (all : map (λ p. (p.0, p.1.now)) seen ≡ drop n (enumerate_from 0 ls)) where
+  on_lines : {A : Type 0} (h : ℕ × Bor (List ℕ) → List A) → flat_map (λ p. h (p.0, p.1.now)) seen ≡ flat_map h (enumerate_from n (drop n ls))
+  on_lines h =
+      sym (flat_map-map h (λ p. (p.0, p.1.now)) seen) ∙ ap (flat_map h) (all ∙ drop_enumerated n 0 ls ∙ ap (λ m. enumerate_from m (drop n ls)) (zero-add n))
 
-  module _ (i : ℕ) (d : Bor (List ℕ)) (here : i < length ls) (e : Result (Option K) Fault) (is : e ≡ entry named (get_or ls i d).now) where
-    pub names_more : (ks js : List K) → js ≡ ks ++ name_added e [] → names_from js (i + 1) ≡ names_from ks i
-    names_more ks js noted =
-        ap (λ l. names_from l (i + 1)) noted
-        ∙ name_behind ks e (names named (map (λ x. x.now) (drop (i + 1) ls)))
-        ∙ ap (λ o. ks ++ name_added o (names named (map (λ x. x.now) (drop (i + 1) ls)))) is
-        ∙ sym (at_drop_more (λ l. ks ++ names named (map (λ x. x.now) l)) ls i d here)
+  pub names_read : flat_map (λ p. name_of (entry named p.1.now.now)) seen ≡ names named (map (λ x. x.now) (drop n ls))
+  names_read = on_lines (λ p. name_of (entry named p.1.now)) ∙ without_index (λ x. x.now) (λ l. name_of (entry named l)) n (drop n ls)
 
-    pub faults_more : (fs gs : List LineFault) → gs ≡ fs ++ fault_added (i + 1) e [] → faults_from gs (i + 1) ≡ faults_from fs i
-    faults_more fs gs noted =
-        ap (λ l. faults_from l (i + 1)) noted
-        ∙ fault_behind (i + 1) fs e (faults named (i + 1 + 1) (map (λ x. x.now) (drop (i + 1) ls)))
-        ∙ ap (λ o. fs ++ fault_added (i + 1) o (faults named (i + 1 + 1) (map (λ x. x.now) (drop (i + 1) ls)))) is
-        ∙ sym (at_drop_more (λ l. fs ++ faults named (i + 1) (map (λ x. x.now) l)) ls i d here)
-
-  pub names_all : (ks : List K) (i : ℕ) → length ls ≤ i → names_from ks i ≡ ks
-  names_all ks i past = at_drop_all (λ l. ks ++ names named (map (λ x. x.now) l)) ls i past ∙ append-nil ks
-
-  pub faults_all : (fs : List LineFault) (i : ℕ) → length ls ≤ i → faults_from fs i ≡ fs
-  faults_all fs i past = at_drop_all (λ l. fs ++ faults named (i + 1) (map (λ x. x.now) l)) ls i past ∙ append-nil fs
+  pub faults_read : flat_map (λ p. fault_of (p.0 + 1) (entry named p.1.now.now)) seen ≡ faults named (n + 1) (map (λ x. x.now) (drop n ls))
+  faults_read = on_lines (λ p. fault_of (p.0 + 1) (entry named p.1.now)) ∙ index_by_one (λ x. x.now) (λ m l. fault_of m (entry named l)) n (drop n ls)

@@ -3,34 +3,27 @@
 --     row_named ns           a rack address by three: aisle, bay and level
 --     number_written n       a name as it is printed
 --     number_expected        what a line of that kind is expected to be
-use Rattle.std.specs.Prelude.{ℕ, List, [], ◌∷◌, ◌++◌, Ok, Err, codes, decimal, Result}
+use Rattle.std.specs.Prelude.{ℕ, List, [], ◌∷◌, Ok, Err, codes, decimal, Result}
+use Rattle.std.specs.Result.{result_map_both}
 use Rattle.order.specs.declared.row.Row.{Row}
-use Rattle.order.specs.declared.address.making.NoPlace.{NoPlace}
 use Rattle.order.specs.Addresses.{placed}
+use Rattle.order.specs.Rows.{row_text}
 use Rattle.names.specs.declared.name.Fault.{Fault}
 use Rattle.names.specs.declared.name.Fault.TheVariants.{Refused, Unreadable}
 
 abbrev pub number_named : List ℕ → Result ℕ Fault
-number_named [] = Err Unreadable
 number_named (n ∷ []) = Ok n
-number_named (n ∷ m ∷ ns) = Err Unreadable
-
-abbrev pub or_refused : Result Row NoPlace → Result Row Fault
-or_refused (Ok row) = Ok row
-or_refused (Err e) = Err (Refused e)
+number_named _ = Err Unreadable
 
 abbrev pub row_named : List ℕ → Result Row Fault
-row_named [] = Err Unreadable
-row_named (a ∷ []) = Err Unreadable
-row_named (a ∷ b ∷ []) = Err Unreadable
-row_named (a ∷ b ∷ l ∷ []) = or_refused (placed a b l)
-row_named (a ∷ b ∷ l ∷ n ∷ ns) = Err Unreadable
+row_named (a ∷ b ∷ l ∷ []) = result_map_both (λ row. row) Refused (placed a b l)
+row_named _ = Err Unreadable
 
 abbrev pub number_written : ℕ → List ℕ
 number_written n = decimal n
 
 abbrev pub row_written : Row → List ℕ
-row_written row = decimal row.aisle ++ (codes " " ++ (decimal row.bay ++ (codes " " ++ decimal row.level)))
+row_written row = row_text row
 
 abbrev pub number_expected : List ℕ
 number_expected = codes "a number from 0 to 4294967295"

@@ -1,35 +1,23 @@
 -- The bytes of a text as lines, words and numbers. Assumes nothing.
---     separates s b       the byte b separates: a line feed; or a blank, a tab or a carriage return
---     pieces s front bs   front and the bytes of bs up to the first separator, then those up to the next, and so on
---     split s bs          what stands between the separators of bs, in order
---     filled ps           those of the pieces that are not empty
+--     lines bs            what stands between the line feeds of bs, in order
+--     blank b             the byte b is a blank, a tab or a carriage return
 --     words bs            the runs of bytes between blanks
 --     with_digit n b      n with the decimal digit b behind it, if b is one and 32 bits are enough
 --     read_on n bs        n with the digits bs behind it, likewise
 --     number bs           the number that bs, at least one digit, writes
 --     numbers ws          the numbers that the words write, if each writes one
-use Rattle.std.specs.Prelude.{ℕ, ◌+◌, ◌-◌, ◌*◌, ◌^◌, Bool, true, false, ◌&&◌, ◌||◌, List, [], ◌∷◌, ◌++◌, Some, None, Option, ◌==◌, nat_le, nat_lt}
-use Rattle.names.specs.declared.text.Separator.{Separator}
-use Rattle.names.specs.declared.text.Separator.TheVariants.{LineFeed, Blank}
+use Rattle.std.specs.Prelude.{ℕ, ◌+◌, ◌-◌, ◌*◌, ◌^◌, Bool, true, false, not, ◌&&◌, ◌||◌, List, [], ◌∷◌, filter, length, Some, None, Option, ◌==◌, nat_le, nat_lt}
+use Rattle.std.specs.List.{slice_split}
+use Rattle.std.specs.Option.{option_map, option_zip}
 
-abbrev pub separates : Separator → ℕ → Bool
-separates LineFeed b = b == 10
-separates Blank b = b == 32 || (b == 9 || b == 13)
+abbrev pub lines : List ℕ → List (List ℕ)
+lines bs = slice_split (λ b. b == 10) bs
 
-abbrev pub pieces : Separator → List ℕ → List ℕ → List (List ℕ)
-pieces s front [] = front ∷ []
-pieces s front (b ∷ bs) = elim (separates s b) [ true ↦ front ∷ pieces s [] bs | false ↦ pieces s (front ++ (b ∷ [])) bs ]
-
-abbrev pub split : Separator → List ℕ → List (List ℕ)
-split s bs = pieces s [] bs
-
-abbrev pub filled : List (List ℕ) → List (List ℕ)
-filled [] = []
-filled ([] ∷ ps) = filled ps
-filled ((b ∷ p) ∷ ps) = (b ∷ p) ∷ filled ps
+abbrev pub blank : ℕ → Bool
+blank b = b == 32 || (b == 9 || b == 13)
 
 abbrev pub words : List ℕ → List (List ℕ)
-words bs = filled (split Blank bs)
+words bs = filter (λ w. not (length w == 0)) (slice_split blank bs)
 
 abbrev pub with_digit : ℕ → ℕ → Option ℕ
 with_digit n b = elim (nat_le 48 b && (nat_le b 57 && nat_lt (n * 10 + (b - 48)) (2 ^ 32))) [ true ↦ Some (n * 10 + (b - 48)) | false ↦ None ]
@@ -42,11 +30,6 @@ abbrev pub number : List ℕ → Option ℕ
 number [] = None
 number (b ∷ bs) = read_on 0 (b ∷ bs)
 
-abbrev pub and_then : Option ℕ → Option (List ℕ) → Option (List ℕ)
-and_then None ns = None
-and_then (Some n) None = None
-and_then (Some n) (Some ns) = Some (n ∷ ns)
-
 abbrev pub numbers : List (List ℕ) → Option (List ℕ)
 numbers [] = Some []
-numbers (w ∷ ws) = and_then (number w) (numbers ws)
+numbers (w ∷ ws) = option_map (λ both. both.0 ∷ both.1) (option_zip (number w) (numbers ws))

@@ -1,57 +1,88 @@
 // The first line of a list, which says of what kind its names are.
-ghost use Rattle.std.specs.Prelude.{◌≡◌, map, IfOk};
-ghost use Rattle.std.specs.Str.{bytes_eq};
-ghost use Rattle.names.specs.Headings.{heading_word, heading_line, headed};
+ghost use Rattle.std.specs.Prelude.{◌≡◌, map, IfOk, Some};
+ghost use Rattle.names.specs.Headings.{complaint, heading_word, heading_line, headed};
 
 use crate::text::words;
 use std::alloc::{AllocError, Global};
+use std::fmt;
 
-// What the first line with a word on it says, if there is one.
-#[derive(Clone, Copy)]
-pub(crate) enum Heading {
-    Missing,
-    Unknown,
+// The kinds of names that there are.
+#[derive(Clone, Copy, PartialEq, Eq, Debug)]
+pub(crate) enum NameKind {
     Numbers,
     Addresses,
 }
 
-fn is_text(word: &[u8], text: &str) -> bool
-    ensures { result ≡ bytes_eq word.now text.now }
-{
-    word == text.as_bytes()
+// Why a list says no kind: no line has a word on it, or the first one that has says something else.
+#[derive(Clone, Copy, PartialEq, Eq, Debug)]
+pub(crate) enum HeadingFault {
+    Missing,
+    Unknown,
 }
 
-fn read_word(word: &[u8]) -> Heading
-    ensures { result ≡ heading_word word.now }
-{
-    if is_text(word, "numbers") {
-        Heading::Numbers
-    } else if is_text(word, "addresses") {
-        Heading::Addresses
-    } else {
-        Heading::Unknown
+impl fmt::Display for HeadingFault {
+    ghost output = { λ e. Some (complaint e) };
+
+    fn fmt<W: fmt::Write>(&self, f: &mut fmt::Formatter<W>) -> fmt::Result {
+        match self {
+            HeadingFault::Missing => {
+                write!(
+                    f,
+                    "The first line is missing: it says numbers or addresses."
+                )
+            }
+            HeadingFault::Unknown => {
+                write!(
+                    f,
+                    "The first line is unknown: it says numbers or addresses."
+                )
+            }
+        }
     }
 }
 
-fn read_words(words: &[&[u8]]) -> Option<Heading>
+// What the first line says, and the index of the line behind it.
+#[derive(Clone, Copy, PartialEq, Eq, Debug)]
+pub(crate) struct Heading {
+    pub(crate) kind: NameKind,
+    pub(crate) behind: usize,
+}
+
+fn read_word(word: &[u8]) -> Result<NameKind, HeadingFault>
+    ensures { result ≡ heading_word word.now }
+{
+    match word {
+        b"numbers" => Ok(NameKind::Numbers),
+        b"addresses" => Ok(NameKind::Addresses),
+        _ => Err(HeadingFault::Unknown),
+    }
+}
+
+// What a line of these words says, if there is a word on it.
+fn read_words(words: &[&[u8]]) -> Option<Result<NameKind, HeadingFault>>
     ensures { result ≡ heading_line (map (λ x. x.now) words.now) }
 {
     match words {
         [] => None,
         [word] => Some(read_word(word)),
-        _ => Some(Heading::Unknown),
+        _ => Some(Err(HeadingFault::Unknown)),
     }
 }
 
-// The heading, and the index of the line behind it.
-pub(crate) fn find_heading(heap: Global, lines: &[&[u8]]) -> Result<(Heading, usize), AllocError>
+// The heading that the first line with a word on it gives, under want of memory.
+// One error enum of both is no plainer: a fault is told, and only want of memory is handed on.
+pub(crate) fn find_heading(
+    heap: Global,
+    lines: &[&[u8]],
+) -> Result<Result<Heading, HeadingFault>, AllocError>
     ensures { IfOk result (λ h. h ≡ headed 0 (map (λ x. x.now) lines.now)) }
 {
     for (i, line) in lines.iter().enumerate() {
         let words = words(heap, line)?;
-        if let Some(heading) = read_words(&words) {
-            return Ok((heading, i + 1));
+        if let Some(said) = read_words(&words) {
+            let behind = i + 1;
+            return Ok(said.map(|kind| Heading { kind, behind }));
         }
     }
-    Ok((Heading::Missing, lines.len()))
+    Ok(Err(HeadingFault::Missing))
 }

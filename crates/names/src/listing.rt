@@ -1,13 +1,13 @@
 // A list of names, read line by line.
-ghost use Rattle.std.specs.Prelude.{◌≡◌, ◌+◌, [], ◌++◌, map, drop, IfOk, OnOk};
-ghost use Rattle.names.specs.Listings.{entry as entry_on, names as names_in, faults as faults_in, name_added, fault_added};
+ghost use Rattle.std.specs.Prelude.{◌≡◌, ◌+◌, ◌++◌, map, drop, IfOk, OnOk};
+ghost use Rattle.names.specs.Listings.{entry as entry_on, names as names_in, faults as faults_in, name_of, fault_of};
 
 use crate::name::{Fault, Name};
 use crate::text::{numbers, words};
 use std::alloc::{AllocError, Global};
 
 // A line that gives no name: its number in the text, from 1, and why.
-#[derive(Clone, Copy)]
+#[derive(Clone, Copy, PartialEq, Eq, Debug)]
 pub struct LineFault {
     pub line: usize,
     pub fault: Fault,
@@ -20,7 +20,8 @@ pub struct Listing<K> {
     pub faults: Vec<LineFault>,
 }
 
-// What one line gives. The outer error is want of memory.
+// What one line gives, under want of memory.
+// One error enum of both is no plainer: a fault is noted, and only want of memory ends the reading.
 fn entry<K: Name>(heap: Global, line: &[u8]) -> Result<Result<Option<K>, Fault>, AllocError>
     ensures { IfOk result (λ e. e ≡ entry_on K.named line.now) }
 {
@@ -31,25 +32,19 @@ fn entry<K: Name>(heap: Global, line: &[u8]) -> Result<Result<Option<K>, Fault>,
     if ns.is_empty() {
         return Ok(Ok(None));
     }
-    match K::from_numbers(&ns) {
-        Ok(k) => Ok(Ok(Some(k))),
-        Err(e) => Ok(Err(e)),
-    }
+    Ok(K::from_numbers(&ns).map(Some))
 }
 
 impl<K: Name> Listing<K> {
-    // Adds what the line of this number gives.
-    fn note(&mut self, number: usize, entry: Result<Option<K>, Fault>) -> Result<(), AllocError>
-        ensures names { OnOk result (self.new.names.items ≡ self.old.names.items ++ name_added entry []) }
-        ensures faults { OnOk result (self.new.faults.items ≡ self.old.faults.items ++ fault_added number entry []) }
+    // Adds what the line with this number gives.
+    fn note(&mut self, line: usize, entry: Result<Option<K>, Fault>) -> Result<(), AllocError>
+        ensures names { OnOk result (self.new.names.items ≡ self.old.names.items ++ name_of entry) }
+        ensures faults { OnOk result (self.new.faults.items ≡ self.old.faults.items ++ fault_of line entry) }
     {
         match entry {
             Ok(None) => {}
             Ok(Some(k)) => self.names.push(k)?,
-            Err(fault) => {
-                let line = number;
-                self.faults.push(LineFault { line, fault })?;
-            }
+            Err(fault) => self.faults.push(LineFault { line, fault })?,
         }
         Ok(())
     }
@@ -68,8 +63,8 @@ pub fn read_lines<K: Name>(
         names: Vec::new(heap),
         faults: Vec::new(heap),
     };
-    for i in from..lines.len() {
-        let entry = entry::<K>(heap, lines[i])?;
+    for (i, line) in lines.iter().enumerate().skip(from) {
+        let entry = entry::<K>(heap, line)?;
         listing.note(i + 1, entry)?;
     }
     Ok(listing)

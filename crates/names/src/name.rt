@@ -1,5 +1,5 @@
 // Names of jobs: what a line has to hold for each kind of key, and how a name is printed.
-ghost use Rattle.std.specs.Prelude.{◌≡◌, ℕ, List, IfOk, string_bytes, Result};
+ghost use Rattle.std.specs.Prelude.{◌≡◌, ℕ, List, Some, Result, refl};
 ghost use Rattle.names.specs.declared.name.Fault.{Fault};
 ghost use Rattle.names.specs.declared.name.Fault.TheVariants.{Refused};
 ghost use Rattle.names.specs.Names.{number_named, row_named, number_written, row_written, number_expected, row_expected};
@@ -8,10 +8,10 @@ use order::address::Address;
 use order::address::making::NoPlace;
 use order::key::Key;
 use order::row::Row;
-use std::alloc::{AllocError, Global};
+use std::fmt::Display;
 
 // Why a line gives no name.
-#[derive(Clone, Copy)]
+#[derive(Clone, Copy, PartialEq, Eq, Debug)]
 pub enum Fault {
     Refused(NoPlace),
     Unreadable,
@@ -25,8 +25,8 @@ impl From<NoPlace> for Fault {
     }
 }
 
-// A kind of key whose keys are named by the numbers on a line.
-pub trait Name: Key {
+// A kind of key whose keys are named by the numbers on a line, and printed as names.
+pub trait Name: Key + Display {
     ghost named: { List ℕ → Result Self Fault };
 
     ghost written: { Self → List ℕ };
@@ -34,22 +34,24 @@ pub trait Name: Key {
     ghost expected: { List ℕ };
 
     // The key that these numbers name.
+    // Not a `TryFrom`, since `u32` is the library's, and its impls are too.
     fn from_numbers(numbers: &[u32]) -> Result<Self, Fault>
         ensures { result ≡ named numbers.now };
-
-    // The name as it is printed.
-    fn write(self, heap: Global) -> Result<String, AllocError>
-        ensures { IfOk result (λ s. string_bytes s ≡ written self) };
 
     // What a line is expected to hold.
     fn expectation() -> &'static str
         ensures { result.now ≡ expected };
+
+    // A key prints as its name.
+    ghost writes: { (x : Self) → Self.Display.output x ≡ Some (written x) };
 }
 
 impl Name for u32 {
     ghost named = { number_named };
 
     ghost written = { number_written };
+
+    ghost writes = { λ x. refl };
 
     ghost expected = { number_expected };
 
@@ -58,10 +60,6 @@ impl Name for u32 {
             [n] => Ok(*n),
             _ => Err(Fault::Unreadable),
         }
-    }
-
-    fn write(self, heap: Global) -> Result<String, AllocError> {
-        format!(in heap; "{self}")
     }
 
     fn expectation() -> &'static str {
@@ -74,6 +72,8 @@ impl Name for Row {
 
     ghost written = { row_written };
 
+    ghost writes = { λ x. refl };
+
     ghost expected = { row_expected };
 
     fn from_numbers(numbers: &[u32]) -> Result<Row, Fault> {
@@ -82,13 +82,6 @@ impl Name for Row {
         };
         let address = Address::new(*aisle, *bay, *level)?;
         Ok(Row::from(address))
-    }
-
-    fn write(self, heap: Global) -> Result<String, AllocError> {
-        let aisle = self.aisle;
-        let bay = self.bay;
-        let level = self.level;
-        format!(in heap; "{aisle} {bay} {level}")
     }
 
     fn expectation() -> &'static str {

@@ -1,137 +1,125 @@
 // What is told of a list: its faults, its names in the board's order, and a line that sums up.
-ghost use Rattle.std.specs.Prelude.{◌≡◌, ◌++◌, map, IfOk, None as Nothing, string_bytes, OnOk};
-ghost use Rattle.names.specs.Reports.{refused_count, fault_line, fault_lines, repeats as repeats_key, doubles as doubles_in, mark as marked, name_line, name_lines, summary as summed, told, Reported, TellsUnder, Tells};
+ghost use Rattle.std.specs.Prelude.{◌≡◌, ◌++◌, map, IfOk, Some, None as Nothing, string_bytes, OnOk};
+ghost use Rattle.names.specs.Reports.{refused_count, fault_line, fault_lines, repeats as repeats_key, doubles as doubles_in, name_line, name_lines, summary, summed, told, Reported, TellsUnder, Tells};
 
-use crate::heading::{Heading, find_heading};
+use crate::heading::{Heading, NameKind, find_heading};
 use crate::listing::{LineFault, read_lines};
 use crate::name::{Fault, Name};
-use crate::text::{Separator, split};
+use crate::text::lines;
 use order::key::Key;
 use order::lists::arrange;
 use order::row::Row;
 use std::alloc::{AllocError, Global};
-use std::cmp::Ordering;
+use std::fmt;
 
 // Whether a key is the one in front of it once more.
 fn repeats<K: Key>(previous: Option<K>, key: K) -> bool
     ensures { result ≡ repeats_key K.order previous key }
 {
-    match previous {
-        None => false,
-        Some(previous) => match previous.compare(key) {
-            Ordering::Less => false,
-            Ordering::Equal => true,
-            Ordering::Greater => false,
-        },
-    }
+    previous.is_some_and(|previous| previous.compare(key).is_eq())
 }
 
-// The line for one fault.
-fn write_fault(heap: Global, fault: LineFault, expected: &str) -> Result<String, AllocError>
-    ensures { IfOk result (λ s. string_bytes s ≡ fault_line expected.now fault) }
+// Adds the line for one fault.
+// Not a `Display` of the fault, since what was expected hangs on the kind of names.
+fn push_fault(out: &mut String, fault: LineFault, expected: &str) -> Result<(), AllocError>
+    ensures { OnOk result (string_bytes out.new ≡ string_bytes out.old ++ fault_line expected.now fault) }
 {
     let line = fault.line;
     match fault.fault {
-        Fault::Refused(refusal) => {
-            let number = refusal.number();
-            format!(in heap; "line {line}: refused {number}\n")
-        }
-        Fault::Unreadable => format!(in heap; "line {line}: unreadable, expected {expected}\n"),
+        Fault::Refused(refusal) => writeln!(out, "line {line}: refused {}", refusal.number()),
+        Fault::Unreadable => writeln!(out, "line {line}: unreadable, expected {expected}"),
     }
 }
 
-// What stands behind a double.
-fn mark(double: bool) -> &'static str
-    ensures { result.now ≡ marked double }
-{
-    if double { " double" } else { "" }
-}
-
-// The line for the key at one place, marked where it is a double.
-fn write_name<K: Name>(
-    heap: Global,
-    place: usize,
-    double: bool,
-    key: K,
-) -> Result<String, AllocError>
-    ensures { IfOk result (λ s. string_bytes s ≡ name_line K.written place double key) }
-{
-    let name = key.write(heap)?;
-    let mark = mark(double);
-    format!(in heap; "{place}: {name}{mark}\n")
-}
-
 // Adds the lines for the faults.
-fn push_faults(
-    out: &mut String,
-    heap: Global,
-    faults: &[LineFault],
-    expected: &str,
-) -> Result<(), AllocError>
+fn push_faults(out: &mut String, faults: &[LineFault], expected: &str) -> Result<(), AllocError>
     ensures { OnOk result (string_bytes out.new ≡ string_bytes out.old ++ fault_lines expected.now faults.now) }
 {
     for fault in faults {
-        let line = write_fault(heap, *fault, expected)?;
-        out.push_str(line.as_str())?;
+        push_fault(out, *fault, expected)?;
     }
     Ok(())
 }
 
+// Adds the line for the key at one place, marked where it is a double.
+fn push_name<K: Name>(
+    out: &mut String,
+    place: usize,
+    double: bool,
+    key: K,
+) -> Result<(), AllocError>
+    ensures { OnOk result (string_bytes out.new ≡ string_bytes out.old ++ name_line K.written place double key) }
+{
+    let mark = if double { " double" } else { "" };
+    writeln!(out, "{place}: {key}{mark}")
+}
+
 // Adds the lines for the keys, in their order.
-fn push_names<K: Name>(out: &mut String, heap: Global, keys: &[K]) -> Result<(), AllocError>
+fn push_names<K: Name>(out: &mut String, keys: &[K]) -> Result<(), AllocError>
     ensures { OnOk result (string_bytes out.new ≡ string_bytes out.old ++ name_lines K.Key.order K.written Nothing 1 keys.now) }
 {
     let mut previous = None;
     for (i, key) in keys.iter().enumerate() {
-        let line = write_name(heap, i + 1, repeats(previous, *key), *key)?;
-        out.push_str(line.as_str())?;
+        push_name(out, i + 1, repeats(previous, *key), *key)?;
         previous = Some(*key);
     }
     Ok(())
 }
 
-// How many keys repeat the one in front.
+// How many keys are the one in front once more.
 fn count_doubles<K: Key>(keys: &[K]) -> usize
-    ensures { result ≡ doubles_in K.order Nothing keys.now }
+    ensures { result ≡ doubles_in K.order keys.now }
 {
-    let mut n = 0;
-    let mut previous = None;
-    for key in keys {
-        if repeats(previous, *key) {
-            n += 1;
-        }
-        previous = Some(*key);
-    }
-    n
+    keys.iter()
+        .zip(keys.iter().skip(1))
+        .filter(|(previous, key)| previous.compare(**key).is_eq())
+        .count()
 }
 
 // How many of the faults are refusals.
 fn count_refused(faults: &[LineFault]) -> usize
     ensures { result ≡ refused_count faults.now }
 {
-    let mut n = 0;
-    for fault in faults {
-        match fault.fault {
-            Fault::Refused(_) => n += 1,
-            Fault::Unreadable => {}
-        }
-    }
-    n
+    faults
+        .iter()
+        .filter(|f| matches!(f.fault, Fault::Refused(_)))
+        .count()
 }
 
-// The last line.
-fn write_summary(
-    heap: Global,
+// What a list comes to: how many names, how many of them doubles, and how many lines with faults.
+#[derive(Clone, Copy, PartialEq, Eq, Debug)]
+struct Summary {
     names: usize,
     doubles: usize,
     refused: usize,
     unreadable: usize,
-) -> Result<String, AllocError>
-    ensures { IfOk result (λ s. string_bytes s ≡ summed names doubles refused unreadable) }
-{
-    format!(in heap;
-        "names {names}, doubles {doubles}, refused {refused}, unreadable {unreadable}\n"
-    )
+}
+
+impl Summary {
+    // The summary of a list of names in order, and of its faults.
+    fn of<K: Key>(keys: &[K], faults: &[LineFault]) -> Summary
+        ensures { result ≡ summed K.order keys.now faults.now }
+    {
+        let refused = count_refused(faults);
+        Summary {
+            names: keys.len(),
+            doubles: count_doubles(keys),
+            refused,
+            unreadable: faults.len() - refused,
+        }
+    }
+}
+
+impl fmt::Display for Summary {
+    ghost output = { λ s. Some (summary s) };
+
+    fn fmt<W: fmt::Write>(&self, f: &mut fmt::Formatter<W>) -> fmt::Result {
+        write!(
+            f,
+            "names {}, doubles {}, refused {}, unreadable {}",
+            self.names, self.doubles, self.refused, self.unreadable
+        )
+    }
 }
 
 // Faults, names and the last line, of a list that was read and arranged.
@@ -139,12 +127,9 @@ fn tell<K: Name>(heap: Global, keys: &[K], faults: &[LineFault]) -> Result<Strin
     ensures { IfOk result (λ s. string_bytes s ≡ told K.Key.order K.written K.expected keys.now faults.now) }
 {
     let mut out = String::new(heap);
-    push_faults(&mut out, heap, faults, K::expectation())?;
-    push_names(&mut out, heap, keys)?;
-    let refused = count_refused(faults);
-    let unreadable = faults.len().saturating_sub(refused);
-    let last = write_summary(heap, keys.len(), count_doubles(keys), refused, unreadable)?;
-    out.push_str(last.as_str())?;
+    push_faults(&mut out, faults, K::expectation())?;
+    push_names(&mut out, keys)?;
+    writeln!(out, "{}", Summary::of(keys, faults))?;
     Ok(out)
 }
 
@@ -157,38 +142,24 @@ fn report_names<K: Name>(heap: Global, lines: &[&[u8]], from: usize) -> Result<S
     tell(heap, &keys, &listing.faults)
 }
 
-// What is told under a heading of the lines from this index on.
-fn report_under(
-    heap: Global,
-    heading: Heading,
-    lines: &[&[u8]],
-    from: usize,
-) -> Result<String, AllocError>
-    ensures { IfOk result (λ s. TellsUnder heading from (map (λ x. x.now) lines.now) (string_bytes s)) }
+// What is told under a heading of the lines behind it.
+fn report_under(heap: Global, heading: Heading, lines: &[&[u8]]) -> Result<String, AllocError>
+    ensures { IfOk result (λ s. TellsUnder heading.kind heading.behind (map (λ x. x.now) lines.now) (string_bytes s)) }
 {
-    match heading {
-        Heading::Missing => {
-            String::from_str(
-                heap,
-                "The first line is missing: it says numbers or addresses.\n",
-            )
-        }
-        Heading::Unknown => {
-            String::from_str(
-                heap,
-                "The first line is unknown: it says numbers or addresses.\n",
-            )
-        }
-        Heading::Numbers => report_names::<u32>(heap, lines, from),
-        Heading::Addresses => report_names::<Row>(heap, lines, from),
+    match heading.kind {
+        NameKind::Numbers => report_names::<u32>(heap, lines, heading.behind),
+        NameKind::Addresses => report_names::<Row>(heap, lines, heading.behind),
     }
 }
 
-// What is told of a text: its first line says of what kind its names are.
+// What is told of a text: its first line says of what kind its names are. A text is bytes, so that any
+// input ends well: a line that is no UTF-8 is unreadable.
 pub fn report(heap: Global, text: &[u8]) -> Result<String, AllocError>
     ensures { IfOk result (λ s. Tells text.now (string_bytes s)) }
 {
-    let lines = split(heap, text, Separator::LineFeed)?;
-    let (heading, from) = find_heading(heap, &lines)?;
-    report_under(heap, heading, &lines, from)
+    let lines = lines(heap, text)?;
+    match find_heading(heap, &lines)? {
+        Ok(heading) => report_under(heap, heading, &lines),
+        Err(fault) => format!(in heap; "{fault}\n"),
+    }
 }

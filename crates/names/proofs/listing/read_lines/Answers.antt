@@ -1,27 +1,17 @@
-use Rattle.std.proofs.Common.{sym, ap, ◌∙◌}
-use Rattle.names.proofs.Listings.{names_from, faults_from, names_more, faults_more, names_all, faults_all}
+use Rattle.std.proofs.Common.{◌∙◌}
+use Rattle.std.proofs.lemmas.Iterator.{YieldsList-from_slice}
+use Rattle.std.proofs.lemmas.Iterator.Adapters.{YieldsList-from_skip}
+use Rattle.std.proofs.lemmas.Iterator.Consumers.{YieldsList-at, YieldsList-from_enumerate, YieldsList-end}
+use Rattle.names.proofs.Listings.{names_read, faults_read}
 use Rattle.names.proofs.listing.read_lines.Goals as goal
-
-pub loop-i-init : goal.loop-i-init
-loop-i-init g c =
-    let named = g.K.Name.named in
-    let ls = c.args.lines.now in
-    (ap (λ ks. names_from named ls ks c.args.from) c.new.ensures.items, ap (λ fs. faults_from named ls fs c.args.from) c.new-2.ensures.items)
-
-pub loop-i-preserved : goal.loop-i-preserved
-loop-i-preserved g c =
-    let named = g.K.Name.named in
-    let ls = c.args.lines.now in
-    let i = c.loop-i.i in
-    let here = c.loop-i-test.true in
-    let inv = c.loop-i.invariant in
-    let told = c.in_ok-entry.ensures in
-    let noted = c.in_ok-note.ensures in
-    (names_more named ls i _ here _ told _ _ noted.names ∙ inv.0, faults_more named ls i _ here _ told _ _ noted.faults ∙ inv.1)
 
 pub returns : goal.returns
 returns g c =
-    let named = g.K.Name.named in
     let ls = c.args.lines.now in
-    let past = c.loop-i-test.false in
-    record { names = sym (names_all named ls _ _ past) ∙ c.loop-i.invariant.0; faults = sym (faults_all named ls _ _ past) ∙ c.loop-i.invariant.1 }
+    let n = c.args.from in
+    let walk = YieldsList-at c.into_iter-i-iterator.ensures.into_iter_gives (YieldsList-from_skip n (YieldsList-at c.skip-i-items.ensures.source (YieldsList-from_enumerate (YieldsList-at c.enumerate.ensures.source (YieldsList-from_slice ls c.iter.ensures.rest)) c.enumerate.ensures.count)) c.skip-i-items.ensures.count) in
+    let all = (YieldsList-end walk c.loop-i.yielded c.loop-i.i-iterator c.loop-i.yielded_by c.next.result c.next.new.self c.in-None.is c.next.ensures.steps).0 in
+    record {
+      names = c.loop-i.invariant.names ∙ names_read g.K.Name.named ls n c.loop-i.yielded all;
+      faults = c.loop-i.invariant.faults ∙ faults_read g.K.Name.named ls n c.loop-i.yielded all;
+    }

@@ -1,14 +1,11 @@
-use Rattle.std.proofs.Common.{sym, ◌∙◌, rules}
-use Rattle.std.proofs.lemmas.List.{at_drop_all}
+use Rattle.std.proofs.Common.{sym, ap, ◌∙◌, rules, tests}
 use Rattle.names.specs.Text.{read_on}
-use Rattle.names.proofs.Texts.{digit_read}
+use Rattle.names.proofs.Digits.{word_read, by_length}
 use Rattle.names.proofs.text.number.Goals as goal
 
-pub returns-in_err-n : goal.returns-in_err-n
-returns-in_err-n c = let more = digit_read c.args.word.now c.loop-b.b-index c.loop-b.n c.push_digit.result c.loop-b-test.true (search rules) in let w = c.in_err-n.was in search rules
-
-pub loop-b-preserved : goal.loop-b-preserved
-loop-b-preserved c = let more = digit_read c.args.word.now c.loop-b.b-index c.loop-b.n c.push_digit.result c.loop-b-test.true (search rules) in let w = c.in_ok-n.was in search rules
-
 pub returns : goal.returns
-returns c = sym (at_drop_all (read_on c.loop-b.n) c.args.word.now c.loop-b.b-index c.loop-b-test.false) ∙ c.loop-b.invariant
+returns c =
+    let h = c.try_fold.ensures.ran in
+    word_read _ (λ p b q k. search (rules, tests)) (h.2, h.3) c.try_fold.result _ (λ b e. (search (rules, tests), e.5)) h.0 h.1 c.iter.result _ (tt, 0) h.4 h.5 h.6
+    ∙ ap (read_on 0) c.iter.ensures.rest
+    ∙ sym (by_length c.args.word.now (search (rules, tests)))
