@@ -2,15 +2,17 @@
 -- where one more meets it; a list without doubles of just those that meet it is as long; so distinct numbers below a bound are at most as many.
 use Rattle.std.proofs.Common.{◌≡◌, ℕ, zero, suc, ◌+◌, ◌<◌, ◌≤◌, Bool, true, false, cond, not, ◌||◌, eqb, ◌⊎◌, ◌↔◌, List, [], ◌∷◌, length, sym, refl, ap, ◌∙◌, inl, inr, arith}
 use Rattle.std.proofs.lemmas.Bool.{cases_eq, cases_Bool, eq-eqb, ne_eqb, eqb-true, or_cases, or_left, or_right, both_ways}
+use Rattle.std.proofs.Math.Bool.{or-false}
+use Rattle.std.specs.List.{list_any}
 use Rattle.theory.specs.Counts.{Meets, count}
 use Rattle.theory.specs.Lists.{In, Distinct, without}
 use Rattle.theory.proofs.Lists.{in_without_cases, in_without, distinct_without, length_without, without_none}
 
 pub count_yes : (f : ℕ → Bool) (n : ℕ) → f n ≡ true → count f (suc n) ≡ suc (count f n)
-count_yes f n e = rw e (omega arith)
+count_yes f n e = grind arith
 
 pub count_no : (f : ℕ → Bool) (n : ℕ) → f n ≡ false → count f (suc n) ≡ count f n
-count_no f n e = rw e (omega arith)
+count_no f n e = grind arith
 
 pub count_le : (f : ℕ → Bool) (n : ℕ) → count f n ≤ n
 count_le f zero = omega arith
@@ -18,24 +20,17 @@ count_le f (suc n) = let ih = count_le f n in grind arith
 
 pub count_not : (f : ℕ → Bool) (n : ℕ) → count f n + count (λ i. not (f i)) n ≡ n
 count_not f zero = refl
-count_not f (suc n) = go (f n) (count_not f n)
-  where
-    go : (b : Bool) → count f n + count (λ i. not (f i)) n ≡ n → (cond b 1 0 + count f n) + (cond (not b) 1 0 + count (λ i. not (f i)) n) ≡ suc n
-    go true e = omega arith
-    go false e = omega arith
+count_not f (suc n) = let ih = count_not f n in grind arith
 
 -- ---- two tests
 
 -- the count grows with the test
 pub count_grows : (f g : ℕ → Bool) (n : ℕ) → ((i : ℕ) → Meets f n i → g i ≡ true) → count f n ≤ count g n
 count_grows f g zero h = omega arith
-count_grows f g (suc n) h = go (f n) (g n) (λ e. h n (omega arith, e)) (count_grows f g n (λ i m. h i (let lt : i < n = m.0 in omega arith, m.1)))
-  where
-    go : (a b : Bool) → (a ≡ true → b ≡ true) → count f n ≤ count g n → cond a 1 0 + count f n ≤ cond b 1 0 + count g n
-    go true true k le = omega arith
-    go true false k le = absurd (both_ways false refl (k refl))
-    go false true k le = omega arith
-    go false false k le = omega arith
+count_grows f g (suc n) h =
+    let here : f n ≡ true → g n ≡ true = λ e. h n (omega arith, e) in
+    let below = count_grows f g n (λ i m. h i (let lt : i < n = m.0 in omega arith, m.1)) in
+    grind arith
 
 pub count_same : (f g : ℕ → Bool) (n : ℕ) → ((i : ℕ) → i < n → f i ≡ g i) → count f n ≡ count g n
 count_same f g n h =
@@ -57,19 +52,15 @@ module _ (f g : ℕ → Bool) (k : ℕ) (out : f k ≡ false) (met : g k ≡ tru
           omega arith
       go (inr ne) ih =
           let below : count g n ≡ suc (count f n) = ih (omega arith) in
-          let here : cond {A = ℕ} (g n) 1 0 ≡ cond (f n) 1 0 = ap (λ b. cond {A = ℕ} b 1 0) (h n (omega arith) (λ e. ne (sym e))) in
-          omega arith
-
-or_none : (a b : Bool) → b ≡ false → (a || b) ≡ a
-or_none true b e = refl
-or_none false b e = e
+          let here : g n ≡ f n = h n (omega arith) (λ e. ne (sym e)) in
+          grind arith
 
 -- at least one more where one more meets it, and all that did still do
 pub count_gains : (f g : ℕ → Bool) (k : ℕ) → f k ≡ false → g k ≡ true → (n : ℕ) → k < n → ((i : ℕ) → Meets f n i → g i ≡ true) → count f n < count g n
 count_gains f g k out met n lt h =
     let t : ℕ → Bool = λ i. f i || eqb i k in
     let tk : t k ≡ true = or_right (f k) (eqb k k) (eq-eqb k k refl) in
-    let more : count t n ≡ suc (count f n) = count_one_more f t k out tk n lt (λ i l ne. or_none (f i) (eqb i k) (ne_eqb i k ne)) in
+    let more : count t n ≡ suc (count f n) = count_one_more f t k out tk n lt (λ i l ne. rw (ne_eqb i k ne) (or-false (f i))) in
     let le : count t n ≤ count g n = count_grows t g n into in
     omega arith
   where
@@ -108,8 +99,7 @@ module _ (f : ℕ → Bool) where
 
 -- the test whether a number is in a list
 abbrev among : List ℕ → ℕ → Bool
-among [] i = false
-among (j ∷ l) i = eqb i j || among l i
+among l i = list_any (eqb i) l
 
 among_in : (l : List ℕ) (i : ℕ) → among l i ≡ true → In i l
 among_in [] i e = absurd (both_ways false refl e)
