@@ -261,7 +261,7 @@ module _ {K : Type 0} (r : Run K) where
   -- ---- all calls
 
   none_at_0 : (c : ℕ) (o : Op K) → ◌≡◌ {A = Option (Op K)} None (Some o) → ⊥
-  none_at_0 c o q = let z : ◌≡◌ {A = ℕ} 0 1 = cc in omega arith
+  none_at_0 c o q = cc
 
   so_far : Same (r.graph 0) empty → ((n : ℕ) → Call r n) → (n : ℕ) → (h : List (Entry K)) × SoFar n h
   so_far first calls zero = (

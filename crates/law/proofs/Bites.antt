@@ -115,7 +115,7 @@ no_calls {K} order first m = record {
     zero_of j le = omega arith
 
     none : (o : Op K) → ◌≡◌ {A = Option (Op K)} None (Some o) → ⊥
-    none o q = let z : ◌≡◌ {A = ℕ} 0 1 = cc in omega arith
+    none o q = cc
 
 pub bites : {K : Type 0} (order : K → K → Ordering) → Bites order
 bites order = record { no_yes_without_a_link = no_yes; no_full_with_nodes_free = no_full; honest_is_met = fine; empty_list_is_met = no_calls order }

@@ -6,7 +6,7 @@ use Rattle.law.specs.History.{Event.started, Event.stepped, Event.finished, Even
 
 module _ {K : Type 0} (r : Run K) where
   pub latest_began : (c i : ℕ) (o : Op K) → latest r c i ≡ Some o → (o.by ≡ c) × Began r i o
-  latest_began c zero o q = absurd (let z : ◌≡◌ {A = ℕ} 0 1 = cc in omega arith)
+  latest_began c zero o q = cc
   latest_began c (suc i) o q = go (r.event (suc i)) refl (latest_began c i o)
     where
       old : (o.by ≡ c) × Began r i o → (o.by ≡ c) × Began r (suc i) o
@@ -63,15 +63,15 @@ module _ {K : Type 0} (r : Run K) where
       no_end e q f = inr (λ o w. f o.by (sym q ∙ w.is))
 
       last : (c : ℕ) → r.event i ≡ finished c → (l : Option (Op K)) → latest r c i ≡ l → ((o : Op K) × Ends r o i) ⊎ ((o : Op K) → Ends r o i → ⊥)
-      last c q None e = inr (λ o w. let a = w.is in let b = w.runs in let f : o.by ≡ c = cc in let g : latest r o.by i ≡ None = rw f e in let z : ◌≡◌ {A = ℕ} 0 1 = cc in omega arith)
+      last c q None e = inr (λ o w. let a = w.is in let b = w.runs in let f : o.by ≡ c = cc in let g : latest r o.by i ≡ None = rw f e in cc)
       last c q (Some o) e = let f : o.by ≡ c = (latest_began c i o e).0 in inl (o, record { runs = ap (λ (d : ℕ). latest r d i) f ∙ e; is = rw f q })
 
       go : (e : Event K) → r.event i ≡ e → ((o : Op K) × Ends r o i) ⊎ ((o : Op K) → Ends r o i → ⊥)
-      go (started d t) q = no_end (started d t) q (λ c e. let z : ◌≡◌ {A = ℕ} 0 1 = cc in omega arith)
-      go (stepped d) q = no_end (stepped d) q (λ c e. let z : ◌≡◌ {A = ℕ} 0 1 = cc in omega arith)
+      go (started d t) q = no_end (started d t) q (λ c e. cc)
+      go (stepped d) q = no_end (stepped d) q (λ c e. cc)
       go (finished d) q = last d q (latest r d i) refl
-      go (collected d a) q = no_end (collected d a) q (λ c e. let z : ◌≡◌ {A = ℕ} 0 1 = cc in omega arith)
-      go other q = no_end other q (λ c e. let z : ◌≡◌ {A = ℕ} 0 1 = cc in omega arith)
+      go (collected d a) q = no_end (collected d a) q (λ c e. cc)
+      go other q = no_end other q (λ c e. cc)
 
   -- ---- one call more
 
@@ -94,8 +94,8 @@ module _ {K : Type 0} (r : Run K) where
   not_now n o b e s = step (rw e at b.is) s.is
     where
       step : r.event (suc n) ≡ started o.by o.request → (r.event (suc n) ≡ stepped o.by) ⊎ (r.event (suc n) ≡ finished o.by) → ⊥
-      step k (inl q) = let z : ◌≡◌ {A = ℕ} 0 1 = cc in omega arith
-      step k (inr q) = let z : ◌≡◌ {A = ℕ} 0 1 = cc in omega arith
+      step k (inl q) = cc
+      step k (inr q) = cc
 
   pub not_yet : (n : ℕ) (o : Op K) → Began r (suc n) o → o.start ≡ suc n → Changed r (suc n) o → ⊥
   not_yet n o b e w = go (changed_less n o w)

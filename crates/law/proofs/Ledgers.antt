@@ -80,9 +80,9 @@ module _ {K : Type 0} (r : Run K) where
         λ q ne. subst (λ (d : ℕ). Behind r t d o.start (suc n)) (sym (latest_began r c n o e).0) (rw same at (p.circle q ne)),
       )
   went n c o e step s s' (binds p) w = (w.0, (n, omega arith, step, p.differs))
-  went n c o e step s s' (sets p) w = (w.0, inl ((n, omega arith, step, p.differs), refl), λ q. absurd (let z : ◌≡◌ {A = ℕ} 0 1 = cc in omega arith))
+  went n c o e step s s' (sets p) w = (w.0, inl ((n, omega arith, step, p.differs), refl), λ q. cc)
   went n c o e step s s' (goes_on u) w = (w.0, changed_more r n o w.1)
-  went n c o e step s s' (ends_yes u) w = (w.0, inl (changed_more r n o w.1, refl), λ q. absurd (let z : ◌≡◌ {A = ℕ} 0 1 = cc in omega arith))
+  went n c o e step s s' (ends_yes u) w = (w.0, inl (changed_more r n o w.1, refl), λ q. cc)
   went n c o e step s s' (owes {t = t} {a = a} u) w = (w.0, due_more n o a (λ _. u) w.1, λ p q. behind_more t o.by o.start n (w.2 p q))
 
   turned : (n c : ℕ) (o : Op K) → Steps r o (suc n) → (s s' : Stage K) → Went r n c s s' → Status n o s → Same (r.graph n) (r.graph (suc n)) ⊎ ((o : Op K) × Changes r n o)
@@ -228,11 +228,11 @@ module _ {K : Type 0} (r : Run K) where
     next n all (started c t) q m = (
       all_but n c (seek t) all m.1 (λ d ne. latest_old n c d t q ne) (λ p x. absurd (none p x)) m.2
           (o, new, not_over n o (λ w. early w) (λ x. none o (end_step r (suc n) o x)), (refl, not_yet r n o began refl)),
-      no_step n m.0 none (no_hands n (started c t) q (λ c a x. let z : ◌≡◌ {A = ℕ} 0 1 = cc in omega arith)),
+      no_step n m.0 none (no_hands n (started c t) q (λ c a x. cc)),
     )
       where
         none : (o : Op K) → Steps r o (suc n) → ⊥
-        none = no_steps n (started c t) q (λ c x. let z : ◌≡◌ {A = ℕ} 0 1 = cc in omega arith) (λ c x. let z : ◌≡◌ {A = ℕ} 0 1 = cc in omega arith)
+        none = no_steps n (started c t) q (λ c x. cc) (λ c x. cc)
 
         o : Op K
         o = record { start = suc n; by = c; request = t }
@@ -265,10 +265,10 @@ module _ {K : Type 0} (r : Run K) where
         step = stepping n c o a.1 (kept c) (inl q)
 
         no_end : (p : Op K) → Ends r p (suc n) → ⊥
-        no_end p x = let y = x.is in let z : ◌≡◌ {A = ℕ} 0 1 = cc in omega arith
+        no_end p x = let y = x.is in cc
 
         no_hand : (p : Op K) (a : Answer) → HandsOver r p a (suc n) → ⊥
-        no_hand p a x = let y = x.is in let z : ◌≡◌ {A = ℕ} 0 1 = cc in omega arith
+        no_hand p a x = let y = x.is in cc
 
         by_whom : (p : Op K) → Steps r p (suc n) → p.by ≡ c
         by_whom p x = ap (λ (y : Op K). y.by) (steps_one r (suc n) p o x step) ∙ (latest_began r c n o a.1).0
@@ -306,7 +306,7 @@ module _ {K : Type 0} (r : Run K) where
         ends p x = let y = x.is in let b : p.by ≡ c = cc in (t, ans, refl, rw b handing)
 
         no_hand : (p : Op K) (a : Answer) → HandsOver r p a (suc n) → ⊥
-        no_hand p a x = let y = x.is in let z : ◌≡◌ {A = ℕ} 0 1 = cc in omega arith
+        no_hand p a x = let y = x.is in cc
 
         by_whom : (p : Op K) → Steps r p (suc n) → p.by ≡ c
         by_whom p x = ap (λ (y : Op K). y.by) (steps_one r (suc n) p o x step) ∙ by
@@ -316,7 +316,7 @@ module _ {K : Type 0} (r : Run K) where
     )
       where
         none : (o : Op K) → Steps r o (suc n) → ⊥
-        none = no_steps n (collected c a) q (λ c x. let z : ◌≡◌ {A = ℕ} 0 1 = cc in omega arith) (λ c x. let z : ◌≡◌ {A = ℕ} 0 1 = cc in omega arith)
+        none = no_steps n (collected c a) q (λ c x. cc) (λ c x. cc)
 
         kept : (d : ℕ) → latest r d (suc n) ≡ latest r d n
         kept d = rw q refl
@@ -335,11 +335,11 @@ module _ {K : Type 0} (r : Run K) where
             (k.0, k.1, subst (λ (z : Op K). Ends r z k.0) g k.2, rw (b, ← e) k.3)
     next n all other q m = (
       λ d. rw (m.1 d) (lasts n d (rw q refl) (λ o _ x. none o x) (stage n d) (all d)),
-      no_step n m.0 none (no_hands n other q (λ c a x. let z : ◌≡◌ {A = ℕ} 0 1 = cc in omega arith)),
+      no_step n m.0 none (no_hands n other q (λ c a x. cc)),
     )
       where
         none : (o : Op K) → Steps r o (suc n) → ⊥
-        none = no_steps n other q (λ c x. let z : ◌≡◌ {A = ℕ} 0 1 = cc in omega arith) (λ c x. let z : ◌≡◌ {A = ℕ} 0 1 = cc in omega arith)
+        none = no_steps n other q (λ c x. cc) (λ c x. cc)
 
     all_calls : (n : ℕ) → All n
     all_calls zero c = rw (l.resting c) tt
