@@ -1,10 +1,11 @@
 -- From what each call does to the history, by induction on the calls: a call that changes the graph brings an entry with itself as
 -- the point, an operation that finishes without a change one with a point from its start on, any other call none.
 use Rattle.std.proofs.Common.{◌≡◌, ℕ, zero, suc, ◌<◌, ◌≤◌, ◌⊎◌, List, [], Some, None, Option, sym, refl, ap, ◌∙◌, subst, inl, inr, arith}
+use Rattle.std.specs.List.{AllByRecursion}
 use Rattle.std.proofs.lemmas.Bool.{cases_eq, cases_order, cases_lt}
 use Rattle.nodes.specs.declared.controller.Answer.{Answer}
 use Rattle.nodes.specs.declared.controller.Answer.TheVariants.{Yes, Circle}
-use Rattle.law.specs.History.{latest, Behind, Same, empty, changed, Run, Op, Entry, replayed, entries_of, Each, Began, Steps, Ends, HandsOver, Over, Running, Changed, Consistent, One}
+use Rattle.law.specs.History.{latest, Behind, Same, empty, changed, Run, Op, Entry, replayed, entries_of, Began, Steps, Ends, HandsOver, Over, Running, Changed, Consistent, One}
 use Rattle.law.specs.Core.{Point, Due, Changes, Call, Assembly}
 use Rattle.law.proofs.Graphs.{same_sym, same_trans, changed_same, right_same}
 use Rattle.law.proofs.Lists.{insert, entries_of_other, entries_of_own, entries_of_none, each_insert, each_map, replayed_early, replayed_all, consistent_still, replayed_still, consistent_end, replayed_end}
@@ -16,9 +17,9 @@ module _ {K : Type 0} (r : Run K) where
     consistent : Consistent r empty 0 h
     ended : (o : Op K) (j : ℕ) → j ≤ n → Ends r o j → (a : Answer) × (r.handing j o.by ≡ Some a) × One r h o a j
     running : (o : Op K) → Running r n o → (Changed r n o × One r h o Yes n) ⊎ ((Changed r n o → ⊥) × (entries_of o.start h ≡ []))
-    only : Each (λ e. Began r n e.op) h
+    only : AllByRecursion (λ e. Began r n e.op) h
     graphs : (i : ℕ) → i ≤ n → Same (replayed i empty h) (r.graph i)
-    points : Each (λ e. e.point ≤ n) h
+    points : AllByRecursion (λ e. e.point ≤ n) h
 
   began_more : (n : ℕ) (o : Op K) → Began r n o → Began r (suc n) o
   began_more n o b = let le : o.start ≤ n = b.by_then in record { first = b.first; by_then = omega arith; is = b.is }
@@ -26,10 +27,10 @@ module _ {K : Type 0} (r : Run K) where
   one_more : (h : List (Entry K)) (o : Op K) (a : Answer) (n : ℕ) → One r h o a n → One r h o a (suc n)
   one_more h o a n w = let le : w.0 ≤ n = w.2 in (w.0, w.1, omega arith, w.3)
 
-  only_more : (n : ℕ) (h : List (Entry K)) → Each (λ e. Began r n e.op) h → Each (λ e. Began r (suc n) e.op) h
+  only_more : (n : ℕ) (h : List (Entry K)) → AllByRecursion (λ e. Began r n e.op) h → AllByRecursion (λ e. Began r (suc n) e.op) h
   only_more n h q = each_map (λ e. Began r n e.op) (λ e. Began r (suc n) e.op) (λ e b. began_more n e.op b) h q
 
-  points_more : (n : ℕ) (h : List (Entry K)) → Each (λ e. e.point ≤ n) h → Each (λ e. e.point ≤ suc n) h
+  points_more : (n : ℕ) (h : List (Entry K)) → AllByRecursion (λ e. e.point ≤ n) h → AllByRecursion (λ e. e.point ≤ suc n) h
   points_more n h q = each_map (λ e. e.point ≤ n) (λ e. e.point ≤ suc n) (λ e b. omega arith) h q
 
   -- an operation that runs after call suc n ran before it, or was started by it
