@@ -3,7 +3,7 @@
 use Rattle.std.proofs.Common.{◌≡◌, ℕ, ◌<◌, ◌≤◌, Bool, true, false, cond, eqb, leb, ◌⊎◌, List, [], ◌∷◌, refl, ap, inl, inr, arith}
 use Rattle.std.specs.List.{AllByRecursion}
 use Rattle.std.proofs.lemmas.List.Elements.{All-from_recursion, recursion_from_All, All-weaker}
-use Rattle.std.proofs.lemmas.Bool.{eq-eqb, ne_eqb, le-leb, lt-leb, cases_lt}
+use Rattle.std.proofs.lemmas.Bool.{eq-eqb, ne_eqb, le-leb, lt-leb, cases_lt, cond_both}
 use Rattle.law.specs.History.{Graph, Same, Entry, Run, after, replayed, entries_of, Right, Consistent, Steps}
 use Rattle.law.proofs.Graphs.{same_sym, same_trans, after_same, right_same}
 
@@ -47,11 +47,8 @@ module _ {K : Type 0} where
   pub each_insert : (P : Entry K → Type 0) (e : Entry K) (h : List (Entry K)) → P e → AllByRecursion P h → AllByRecursion P (insert e h)
   unfolding insert
   each_insert P e [] p q = (p, tt)
-  each_insert P e (x ∷ h) p q = go (leb x.point e.point) (each_insert P e h p q.1)
-    where
-      go : (b : Bool) → AllByRecursion P (insert e h) → AllByRecursion P (cond b (x ∷ insert e h) (e ∷ x ∷ h))
-      go true w = (q.0, w)
-      go false w = (p, q)
+  each_insert P e (x ∷ h) p q =
+      cond_both (leb x.point e.point) (x ∷ insert e h) (e ∷ x ∷ h) (AllByRecursion P) (λ _. (q.0, each_insert P e h p q.1)) (λ _. (p, q))
 
   pub each_map : (P Q : Entry K → Type 0) → ((e : Entry K) → P e → Q e) → (h : List (Entry K)) → AllByRecursion P h → AllByRecursion Q h
   each_map P Q f h q = recursion_from_All Q h (All-weaker P Q f h (All-from_recursion P h q))
