@@ -1,6 +1,7 @@
 -- Graphs with the same jobs and waits: the same answers are right in them, and answers change them alike.
 use Rattle.std.proofs.Common.{ℕ}
 use Rattle.std.proofs.Math.Logic.{⊎_map}
+use Rattle.std.proofs.Math.Logic.Iff.{rfl, symm, trans}
 use Rattle.nodes.specs.declared.controller.Operation.{Operation}
 use Rattle.nodes.specs.declared.controller.Operation.TheVariants.{AddJob, RemoveJob, HasJob, AddWait, RemoveWait, HasWait}
 use Rattle.nodes.specs.declared.controller.Answer.{Answer}
@@ -10,16 +11,13 @@ use Rattle.law.specs.History.{Leads.last, Leads.more}
 
 module _ {K : Type 0} where
   pub same_refl : (G : Graph K) → Same G G
-  same_refl G = record { job = λ k. (λ x. x, λ x. x); wait = λ a b. (λ x. x, λ x. x) }
+  same_refl G = record { job = λ k. rfl; wait = λ a b. rfl }
 
   pub same_sym : (G H : Graph K) → Same G H → Same H G
-  same_sym G H s = record { job = λ k. ((s.job k).1, (s.job k).0); wait = λ a b. ((s.wait a b).1, (s.wait a b).0) }
+  same_sym G H s = record { job = λ k. symm (s.job k); wait = λ a b. symm (s.wait a b) }
 
   pub same_trans : (G H I : Graph K) → Same G H → Same H I → Same G I
-  same_trans G H I s t = record {
-    job = λ k. (λ x. (t.job k).0 ((s.job k).0 x), λ x. (s.job k).1 ((t.job k).1 x));
-    wait = λ a b. (λ x. (t.wait a b).0 ((s.wait a b).0 x), λ x. (s.wait a b).1 ((t.wait a b).1 x));
-  }
+  same_trans G H I s t = record { job = λ k. trans (s.job k) (t.job k); wait = λ a b. trans (s.wait a b) (t.wait a b) }
 
   leads_same : (G H : Graph K) → Same G H → (a b : K) → Leads G.wait a b → Leads H.wait a b
   leads_same G H s a b (last w) = last ((s.wait a b).0 w)

@@ -23,22 +23,6 @@ ended e j first from to begins runs finishes hands = record {
   to = to;
 }
 
-add5_ends : EndsAt add5 6
-unfolding machine
-add5_ends = ended add5 6 (omega arith) (omega arith) (omega arith) refl refl refl refl
-
-add7_ends : EndsAt add7 14
-unfolding machine
-add7_ends = ended add7 14 (omega arith) (omega arith) (omega arith) refl refl refl refl
-
-wait57_ends : EndsAt wait57 40
-unfolding machine
-wait57_ends = ended wait57 40 (omega arith) (omega arith) (omega arith) refl refl refl refl
-
-wait75_ends : EndsAt wait75 41
-unfolding machine
-wait75_ends = ended wait75 41 (omega arith) (omega arith) (omega arith) refl refl refl refl
-
 -- a circle changes nothing
 right : Consistent schedule_run empty 0 explained
 unfolding machine
@@ -109,12 +93,13 @@ row75 = record {
 }
 
 pub schedule_explained : ScheduleExplained
+unfolding machine
 schedule_explained = record {
   entries_are_right = right;
-  add5_ends = add5_ends;
-  add7_ends = add7_ends;
-  wait57_ends = wait57_ends;
-  wait75_ends = wait75_ends;
+  add5_ends = ended add5 6 (omega arith) (omega arith) (omega arith) refl refl refl refl;
+  add7_ends = ended add7 14 (omega arith) (omega arith) (omega arith) refl refl refl refl;
+  wait57_ends = ended wait57 40 (omega arith) (omega arith) (omega arith) refl refl refl refl;
+  wait75_ends = ended wait75 41 (omega arith) (omega arith) (omega arith) refl refl refl refl;
   row_behind_wait57 = row57;
   row_behind_wait75 = row75;
   graph_in_the_end = last_graph;
