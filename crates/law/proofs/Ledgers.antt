@@ -108,14 +108,12 @@ module _ {K : Type 0} (r : Run K) where
   source n c s s' (ends_yes u) w = w
   source n c s s' (owes u) w = w
 
-  target : (n c : ℕ) (s s' : Stage K) → Went r n c s s' → Alive (suc n) c s' → In (suc n) c s'
-  target n c s s' (seeks u) w = w
-  target n c s s' (settles u p) w = w
-  target n c s s' (binds p) w = w
-  target n c s s' (sets p) w = w
-  target n c s s' (goes_on u) w = w
-  target n c s s' (ends_yes u) w = w
-  target n c s s' (owes u) w = w
+  from_alive : (n c : ℕ) (s : Stage K) → Alive n c s → In n c s
+  from_alive n c rest w = tt
+  from_alive n c (seek t) w = w
+  from_alive n c (bound t) w = w
+  from_alive n c (owed t a) w = w
+  from_alive n c (done t a) w = absurd w.3
 
   -- a controller at which call suc n does nothing
   lasts : (n d : ℕ) → latest r d (suc n) ≡ latest r d n → ((o : Op K) → o.by ≡ d → Steps r o (suc n) → ⊥) → (s : Stage K) → In n d s → In (suc n) d s
@@ -221,7 +219,7 @@ module _ {K : Type 0} (r : Run K) where
         early w = let a : suc n ≤ w.0 = (began_by r w.0 o (end_step r w.0 o w.2)).by_then in let b : w.0 ≤ n = w.1 in omega arith
     next n all (stepped c) q m = (
       all_but n c (stage (suc n) c) all m.0 (λ d ne. kept d) by_whom refl
-          (target n c (stage n c) (stage (suc n) c) m.1
+          (from_alive (suc n) c (stage (suc n) c)
           (o, kept c ∙ a.1, not_over n o a.2 (λ x. cc), went n c o a.1 step (stage n c) (stage (suc n) c) m.1 a.3)),
       step_call n c o a.1 a.2 step (stage n c) (stage (suc n) c) m.1 a.3 (λ p x. cc) (λ p b x. cc),
     )
