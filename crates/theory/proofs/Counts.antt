@@ -3,6 +3,7 @@
 use Rattle.std.proofs.Common.{◌≡◌, ℕ, zero, suc, ◌+◌, ◌<◌, ◌≤◌, Bool, true, false, cond, not, ◌||◌, eqb, ◌⊎◌, ◌↔◌, List, [], ◌∷◌, length, sym, refl, ap, ◌∙◌, inl, inr, arith}
 use Rattle.std.proofs.lemmas.Bool.{cases_eq, cases_Bool, eq-eqb, ne_eqb, eqb-true, or_cases, or_left, or_right, both_ways}
 use Rattle.std.proofs.Math.Bool.{or-false}
+use Rattle.std.proofs.Math.Logic.{⊎_map}
 use Rattle.std.specs.List.{list_any}
 use Rattle.theory.specs.Counts.{Meets, count}
 use Rattle.theory.specs.Lists.{In, Distinct, without}
@@ -103,7 +104,7 @@ among l i = list_any (eqb i) l
 
 among_in : (l : List ℕ) (i : ℕ) → among l i ≡ true → In i l
 among_in [] i e = absurd (both_ways false refl e)
-among_in (j ∷ l) i e = elim (or_cases (eqb i j) (among l i) e) [ inl q ↦ inl (eqb-true i j q) | inr q ↦ inr (among_in l i q) ]
+among_in (j ∷ l) i e = ⊎_map (eqb-true i j) (among_in l i) (or_cases (eqb i j) (among l i) e)
 
 in_among : (l : List ℕ) (i : ℕ) → In i l → among l i ≡ true
 in_among [] i m = absurd m

@@ -1,6 +1,7 @@
 -- Members of lists, lists without doubles, and a number put into a list or taken out.
 use Rattle.std.proofs.Common.{◌≡◌, ℕ, suc, ◌⊎◌, List, [], ◌∷◌, ◌++◌, map, length, sym, refl, ap, ◌∙◌, inl, inr}
 use Rattle.std.specs.List.{AllByRecursion}
+use Rattle.std.proofs.Math.Logic.{⊎_map}
 use Rattle.std.proofs.lemmas.Bool.{cases_eq, eq-eqb, ne_eqb}
 use Rattle.theory.specs.Lists.{In, Pairwise, Distinct, spliced, without}
 
@@ -26,7 +27,7 @@ module _ {A : Type 0} where
   pub in_append_cases : (x : A) (l m : List A) → In x (l ++ m) → In x l ⊎ In x m
   in_append_cases x [] m h = inr h
   in_append_cases x (y ∷ l) m (inl e) = inl (inl e)
-  in_append_cases x (y ∷ l) m (inr h) = elim (in_append_cases x l m h) [ inl k ↦ inl (inr k) | inr k ↦ inr k ]
+  in_append_cases x (y ∷ l) m (inr h) = ⊎_map inr (λ k. k) (in_append_cases x l m h)
 
   pub pairwise_weaker : (R S : A → A → Type 0) → ((x y : A) → R x y → S x y) → (l : List A) → Pairwise R l → Pairwise S l
   pairwise_weaker R S f [] h = tt
@@ -84,7 +85,7 @@ in_spliced_cases i s p x (j ∷ l) h = elim (cases_eq s p) [
   | inl e ↦ rw (spliced_here s p x (j ∷ l) e) at h
   | inr ne ↦ let k : In i (j ∷ spliced j p x l) = rw (spliced_past s p x j l ne) at h in elim k [
     | inl e ↦ inr (inl e)
-    | inr m ↦ elim (in_spliced_cases i j p x l m) [ inl e ↦ inl e | inr o ↦ inr (inr o) ]
+    | inr m ↦ ⊎_map (λ e. e) inr (in_spliced_cases i j p x l m)
   ]
 ]
 
@@ -92,7 +93,7 @@ pub in_spliced_old : (i s p x : ℕ) (l : List ℕ) → In i l → In i (spliced
 in_spliced_old i s p x [] m = absurd m
 in_spliced_old i s p x (j ∷ l) m = elim (cases_eq s p) [
   | inl e ↦ rw (spliced_here s p x (j ∷ l) e) (inr m)
-  | inr ne ↦ rw (spliced_past s p x j l ne) (elim m [ inl q ↦ inl q | inr k ↦ inr (in_spliced_old i j p x l k) ])
+  | inr ne ↦ rw (spliced_past s p x j l ne) (⊎_map (λ q. q) (in_spliced_old i j p x l) m)
 ]
 
 pub in_spliced_new : (s p x : ℕ) (l : List ℕ) → In p (s ∷ l) → In x (spliced s p x l)
