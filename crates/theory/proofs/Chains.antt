@@ -97,11 +97,10 @@ module _ (kept : ℕ → Bool) (next next' : ℕ → Option ℕ) where
     pub linked_link : (s : ℕ) (l : List ℕ) → AllKept kept (s ∷ l) → In p (s ∷ l) → Linked next (next s) l → Linked next' (next' s) (spliced s p x l)
     linked_link s l k (inl e) h = link_here s l (sym e) k.1 h
     linked_link s [] k (inr m) h = absurd m
-    linked_link s (i ∷ l) k (inr m) h = go (cases_eq s p) (linked_link i l k.1 m h.1)
-      where
-        go : (s ≡ p) ⊎ (s ≡ p → ⊥) → Linked next' (next' i) (spliced i p x l) → Linked next' (next' s) (spliced s p x (i ∷ l))
-        go (inl e) ih = link_here s (i ∷ l) e k.1 h
-        go (inr ne) ih = rw (spliced_past s p x i l ne) (w.else s k.0 ne ∙ h.0, ih)
+    linked_link s (i ∷ l) k (inr m) h = elim (cases_eq s p) [
+      | inl e ↦ link_here s (i ∷ l) e k.1 h
+      | inr ne ↦ rw (spliced_past s p x i l ne) (w.else s k.0 ne ∙ h.0, linked_link i l k.1 m h.1)
+    ]
 
   -- ---- unlinking
 
@@ -118,15 +117,14 @@ module _ (kept : ℕ → Bool) (next next' : ℕ → Option ℕ) where
     pub linked_unlink : (s : ℕ) (l : List ℕ) → AllKept kept (s ∷ l) → In p (s ∷ l) → Linked next (next s) l → Linked next' (next' s) (without y l)
     linked_unlink s l k (inl e) h = unlink_here s l (sym e) k.1 h
     linked_unlink s [] k (inr m) h = absurd m
-    linked_unlink s (i ∷ l) k (inr m) h = go (cases_eq s p) (linked_unlink i l k.1 m h.1)
+    linked_unlink s (i ∷ l) k (inr m) h = elim (cases_eq s p) [
+      | inl e ↦ unlink_here s (i ∷ l) e k.1 h
+      | inr ne ↦ rw (without_cons_other y i l past) (w.else s k.0 ne ∙ h.0, linked_unlink i l k.1 m h.1)
+    ]
       where
         -- y stands behind i
         past : i ≡ y → ⊥
         past e = linked_once next i l h.1 (rw e (linked_next next i l h.1 p y w.was m))
-
-        go : (s ≡ p) ⊎ (s ≡ p → ⊥) → Linked next' (next' i) (without y l) → Linked next' (next' s) (without y (i ∷ l))
-        go (inl e) ih = unlink_here s (i ∷ l) e k.1 h
-        go (inr ne) ih = rw (without_cons_other y i l past) (w.else s k.0 ne ∙ h.0, ih)
 
   -- ---- closed under next, before and after a write
 
@@ -139,12 +137,11 @@ module _ (kept : ℕ → Bool) (next next' : ℕ → Option ℕ) where
         go : (i ≡ p) ⊎ (i ≡ p → ⊥) → (kept i ≡ true) ⊎ ((i ≡ x) ⊎ (next' i ≡ None)) → kept' y ≡ true
         go (inl q) o = cc
         go (inr ne) (inl o) = old y (closed i y o (sym (w.else i o ne) ∙ e))
-        go (inr ne) (inr (inl q)) = old y (closed p y kp (sym w.new ∙ (ap next' (sym q) ∙ e)))
+        go (inr ne) (inr (inl q)) = old y (closed p y kp (cc))
         go (inr ne) (inr (inr z)) = cc
 
     pub closed_unlink : (p y : ℕ) → Unlinks kept next next' p y → kept p ≡ true → Closed kept next'
-    closed_unlink p y w kp i z k e = go (cases_eq i p)
-      where
-        go : (i ≡ p) ⊎ (i ≡ p → ⊥) → kept z ≡ true
-        go (inl q) = closed y z (closed p y kp w.was) (sym w.at ∙ (ap next' (sym q) ∙ e))
-        go (inr ne) = closed i z k (sym (w.else i k ne) ∙ e)
+    closed_unlink p y w kp i z k e = elim (cases_eq i p) [
+      | inl q ↦ closed y z (closed p y kp w.was) (cc)
+      | inr ne ↦ closed i z k (sym (w.else i k ne) ∙ e)
+    ]

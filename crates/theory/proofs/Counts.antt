@@ -43,18 +43,17 @@ count_same f g n h =
 module _ (f g : ℕ → Bool) (k : ℕ) (out : f k ≡ false) (met : g k ≡ true) where
   pub count_one_more : (n : ℕ) → k < n → ((i : ℕ) → i < n → (i ≡ k → ⊥) → g i ≡ f i) → count g n ≡ suc (count f n)
   count_one_more zero lt h = absurd (omega arith)
-  count_one_more (suc n) lt h = go (cases_eq k n) (λ l. count_one_more n l (λ i m. h i (omega arith)))
-    where
-      go : (k ≡ n) ⊎ (k ≡ n → ⊥) → (k < n → count g n ≡ suc (count f n)) → count g (suc n) ≡ suc (count f (suc n))
-      go (inl e) ih =
-          let below : count g n ≡ count f n = count_same g f n (λ i l. h i (omega arith) (λ q. omega arith)) in
-          let more = count_yes g n (rw (sym e) met) in
-          let none = count_no f n (rw (sym e) out) in
-          omega arith
-      go (inr ne) ih =
-          let below : count g n ≡ suc (count f n) = ih (omega arith) in
-          let here : g n ≡ f n = h n (omega arith) (λ e. ne (sym e)) in
-          grind arith
+  count_one_more (suc n) lt h = elim (cases_eq k n) [
+    | inl e ↦
+      let below : count g n ≡ count f n = count_same g f n (λ i l. h i (omega arith) (λ q. omega arith)) in
+      let more = count_yes g n (rw (sym e) met) in
+      let none = count_no f n (rw (sym e) out) in
+      omega arith
+    | inr ne ↦
+      let below : count g n ≡ suc (count f n) = count_one_more n (omega arith) (λ i l. h i (omega arith)) in
+      let here : g n ≡ f n = h n (omega arith) (λ e. ne (sym e)) in
+      grind arith
+  ]
 
 -- at least one more where one more meets it, and all that did still do
 pub count_gains : (f g : ℕ → Bool) (k : ℕ) → f k ≡ false → g k ≡ true → (n : ℕ) → k < n → ((i : ℕ) → Meets f n i → g i ≡ true) → count f n < count g n
@@ -92,11 +91,12 @@ module _ (f : ℕ → Bool) where
   pub count_listed : (n : ℕ) (l : List ℕ) → Distinct l → Listed n l → length l ≡ count f n
   count_listed zero [] d h = refl
   count_listed zero (i ∷ l) d h = absurd (let lt : i < 0 = ((h i).0 (inl refl)).0 in omega arith)
-  count_listed (suc n) l d h = go (cases_Bool (f n)) (count_listed n (without n l) (distinct_without n l d) (listed_below n l h))
-    where
-      go : (f n ≡ true) ⊎ (f n ≡ false) → length (without n l) ≡ count f n → length l ≡ count f (suc n)
-      go (inl e) ih = length_without n l d ((h n).1 (omega arith, e)) ∙ (ap suc ih ∙ sym (count_yes f n e))
-      go (inr e) ih = ap length (sym (without_none n l (λ m. both_ways (f n) e ((h n).0 m).1))) ∙ (ih ∙ sym (count_no f n e))
+  count_listed (suc n) l d h =
+      let ih = count_listed n (without n l) (distinct_without n l d) (listed_below n l h) in
+      elim (cases_Bool (f n)) [
+        | inl e ↦ cc (length_without n l d ((h n).1 (omega arith, e)), count_yes f n e)
+        | inr e ↦ cc (without_none n l (λ m. both_ways (f n) e ((h n).0 m).1), count_no f n e)
+      ]
 
 -- the test whether a number is in a list
 abbrev among : List ℕ → ℕ → Bool

@@ -81,11 +81,10 @@ module _ (kept : ℕ → Bool) (next next' : ℕ → Option ℕ) (closed : Close
   -- x is linked behind p
   module _ (p x : ℕ) (w : Links kept next next' p x) where
     link_step : (f : ℕ) → Steps f
-    link_step f z n k e r = go (cases_eq z p)
-      where
-        go : (z ≡ p) ⊎ (z ≡ p → ⊥) → Ahead next' z f
-        go (inl q) = record { first = x; is = ap next' q ∙ w.at; reach = onward (w.new ∙ (ap next (sym q) ∙ e)) r }
-        go (inr ne) = record { first = n; is = w.else z k ne ∙ e; reach = r }
+    link_step f z n k e r = elim (cases_eq z p) [
+      | inl q ↦ record { first = x; is = cc; reach = onward (cc) r }
+      | inr ne ↦ record { first = n; is = w.else z k ne ∙ e; reach = r }
+    ]
 
     pub reach_link : (z f : ℕ) → kept z ≡ true → Reach next z f → Reach next' z f
     reach_link z f = reach_by_steps f (link_step f) z
@@ -103,11 +102,11 @@ module _ (kept : ℕ → Bool) (next next' : ℕ → Option ℕ) (closed : Close
         past q d m (inl u) = absurd (stays (sym m ∙ u))
         past q d m (inr a) =
             let ky : kept y ≡ true = closed z y k (e ∙ ap Some m) in
-            record { first = a.first; is = ap next' q ∙ (w.at ∙ (sym (w.else y ky d) ∙ (ap next' (sym m) ∙ a.is))); reach = a.reach }
+            record { first = a.first; is = cc (w.else y ky d); reach = a.reach }
 
         go : (z ≡ p) ⊎ (z ≡ p → ⊥) → (y ≡ p) ⊎ (y ≡ p → ⊥) → Ahead next' z f
         go (inr ne) d = record { first = n; is = w.else z k ne ∙ e; reach = r }
-        go (inl q) (inl d) = record { first = n; is = ap next' q ∙ (w.at ∙ (ap next (d ∙ sym q) ∙ e)); reach = r }
+        go (inl q) (inl d) = record { first = n; is = cc; reach = r }
         go (inl q) (inr d) = past q d (cc) (reach_cases next' n f r)
 
     pub reach_unlink : (z f : ℕ) → (y ≡ f → ⊥) → kept z ≡ true → Reach next z f → Reach next' z f
