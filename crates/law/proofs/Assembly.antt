@@ -1,12 +1,12 @@
 -- From what each call does to the history, by induction on the calls: a call that changes the graph brings an entry with itself as
 -- the point, an operation that finishes without a change one with a point from its start on, any other call none.
-use Rattle.std.proofs.Common.{◌≡◌, ℕ, zero, suc, ◌<◌, ◌≤◌, ◌⊎◌, List, [], Some, None, Option, sym, refl, ap, ◌∙◌, subst, inl, inr, arith}
+use Rattle.std.proofs.Common.{◌≡◌, ℕ, zero, suc, ◌<◌, ◌≤◌, ◌⊎◌, List, [], Some, sym, refl, ap, ◌∙◌, subst, inl, inr, arith}
 use Rattle.std.specs.List.{AllByRecursion}
 use Rattle.std.proofs.Math.Nat.{le-suc_iff}
 use Rattle.std.proofs.lemmas.Bool.{cases_eq, cases_lt}
 use Rattle.nodes.specs.declared.controller.Answer.{Answer}
 use Rattle.nodes.specs.declared.controller.Answer.TheVariants.{Yes, Circle}
-use Rattle.law.specs.History.{latest, Behind, Same, empty, changed, Run, Op, Entry, replayed, entries_of, Began, Steps, Ends, HandsOver, Over, Running, Changed, Consistent, One}
+use Rattle.law.specs.History.{Behind, Same, empty, changed, Run, Op, Entry, replayed, entries_of, Began, Steps, Ends, HandsOver, Over, Running, Changed, Consistent, One}
 use Rattle.law.specs.Core.{Point, Due, Changes, Call, Assembly}
 use Rattle.law.proofs.Graphs.{same_sym, same_trans, changed_same, right_same}
 use Rattle.law.proofs.Lists.{insert, entries_of_other, entries_of_own, entries_of_none, each_insert, each_map, replayed_early, replayed_all, consistent_still, replayed_still, consistent_end, replayed_end}
@@ -216,7 +216,7 @@ module _ {K : Type 0} (r : Run K) where
         graphs i le = elim (cases_lt i m) [
           | inl lt ↦ rw (replayed_early i e lt empty h) (as_before same i le)
           | inr ge ↦ same_trans (replayed i empty (insert e h)) (replayed i empty h) (r.graph i)
-          (replayed_still r e (r.graph m) p.right p.still i ge h empty 0 at_m s.consistent) (as_before same i le)
+              (replayed_still r e (r.graph m) p.right p.still i ge h empty 0 at_m s.consistent) (as_before same i le)
         ]
 
     extend : (h' : List (Entry K)) × SoFar (suc n) h'

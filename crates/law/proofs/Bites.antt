@@ -1,12 +1,12 @@
 -- The statement of a history refutes two wrong runs, and an honest one and the empty one meet it.
-use Rattle.std.proofs.Common.{◌≡◌, ℕ, zero, suc, ◌<◌, ◌≤◌, ◌⊎◌, List, [], ◌∷◌, Some, None, Option, sym, refl, ap, ◌∙◌, subst, inl, inr, arith}
+use Rattle.std.proofs.Common.{◌≡◌, ℕ, zero, suc, ◌<◌, ◌≤◌, List, [], ◌∷◌, Some, Option, sym, refl, ap, ◌∙◌, subst, inl, inr, arith}
 use Rattle.std.specs.List.{AllByRecursion}
 use Rattle.std.proofs.lemmas.Bool.{eq-eqb, le-leb, cases_eq}
 use Rattle.std.specs.declared.cmp.Ordering.{Ordering}
 use Rattle.nodes.specs.declared.controller.Answer.{Answer}
 use Rattle.nodes.specs.declared.controller.Answer.TheVariants.{Yes, Full}
 use Rattle.nodes.specs.Memory.{Memory, fresh, fresh_nodes}
-use Rattle.law.specs.History.{Same, empty, changed, Request, Run, Op, Entry, entries_of, replayed, latest, Began, Consistent, History, Linearizes}
+use Rattle.law.specs.History.{Same, empty, changed, Request, Op, Entry, entries_of, replayed, Began, Consistent, History, Linearizes}
 use Rattle.law.specs.History.{Event.started, Event.finished}
 use Rattle.law.specs.Ledger.{Stage, Move, Ledger}
 use Rattle.law.specs.Ledger.{Stage.rest, Stage.seek, Stage.done, Went.sets}

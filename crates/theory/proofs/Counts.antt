@@ -1,6 +1,6 @@
 -- How many numbers below a bound meet a test: at most the bound, and the rest do not meet it; the count grows with the test, and is one more
 -- where one more meets it; a list without doubles of just those that meet it is as long; so distinct numbers below a bound are at most as many.
-use Rattle.std.proofs.Common.{◌≡◌, ℕ, zero, suc, ◌+◌, ◌<◌, ◌≤◌, Bool, true, false, cond, not, ◌||◌, eqb, ◌⊎◌, ◌↔◌, List, [], ◌∷◌, length, sym, refl, ap, ◌∙◌, inl, inr, arith}
+use Rattle.std.proofs.Common.{◌≡◌, ℕ, zero, suc, ◌+◌, ◌<◌, ◌≤◌, Bool, true, false, not, ◌||◌, eqb, ◌↔◌, List, [], ◌∷◌, length, sym, refl, ◌∙◌, inl, inr, arith}
 use Rattle.std.proofs.lemmas.Bool.{cases_eq, cases_Bool, eq-eqb, ne_eqb, eqb-true, or_cases, or_left, or_right, both_ways}
 use Rattle.std.proofs.Math.Bool.{or-false}
 use Rattle.std.proofs.Math.Logic.{⊎_map}
@@ -45,14 +45,14 @@ module _ (f g : ℕ → Bool) (k : ℕ) (out : f k ≡ false) (met : g k ≡ tru
   count_one_more zero lt h = absurd (omega arith)
   count_one_more (suc n) lt h = elim (cases_eq k n) [
     | inl e ↦
-      let below : count g n ≡ count f n = count_same g f n (λ i l. h i (omega arith) (λ q. omega arith)) in
-      let more = count_yes g n (rw (sym e) met) in
-      let none = count_no f n (rw (sym e) out) in
-      omega arith
+        let below : count g n ≡ count f n = count_same g f n (λ i l. h i (omega arith) (λ q. omega arith)) in
+        let more = count_yes g n (rw (sym e) met) in
+        let none = count_no f n (rw (sym e) out) in
+        omega arith
     | inr ne ↦
-      let below : count g n ≡ suc (count f n) = count_one_more n (omega arith) (λ i l. h i (omega arith)) in
-      let here : g n ≡ f n = h n (omega arith) (λ e. ne (sym e)) in
-      grind arith
+        let below : count g n ≡ suc (count f n) = count_one_more n (omega arith) (λ i l. h i (omega arith)) in
+        let here : g n ≡ f n = h n (omega arith) (λ e. ne (sym e)) in
+        grind arith
   ]
 
 -- at least one more where one more meets it, and all that did still do

@@ -1,9 +1,8 @@
 -- Consequences of the laws of an order of keys.
-use Rattle.std.proofs.Common.{◌≡◌, ℕ, ◌⊎◌, refl, ap, ◌∙◌, subst, inl, inr, arith}
+use Rattle.std.proofs.Common.{◌≡◌, ◌⊎◌, refl, inl, inr}
 use Rattle.std.specs.declared.cmp.Ordering.{Ordering}
 use Rattle.std.specs.declared.cmp.Ordering.TheVariants.{Less, Equal, Greater}
 use Rattle.order.specs.Orders.{OrderLaws}
-use Rattle.std.specs.Ordering.{ordering_reverse}
 
 pub cases_of_order : (o : Ordering) → (o ≡ Less) ⊎ ((o ≡ Equal) ⊎ (o ≡ Greater))
 cases_of_order Less = inl refl

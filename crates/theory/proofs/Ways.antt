@@ -114,7 +114,7 @@ module _ {A : Type 0} where
       acyclic_older (suc n) x l = elim (newest n x x l) [
         | inl k ↦ acyclic_older n x k
         | inr (u, v, e) ↦
-          acyclic_with (Older E n) u v (acyclic_older n) (back n u v e) x (leads_map (Older E (suc n)) (With (Older E n) u v) (with_newest n u v e) x x l)
+            acyclic_with (Older E n) u v (acyclic_older n) (back n u v e) x (leads_map (Older E (suc n)) (With (Older E n) u v) (with_newest n u v e) x x l)
       ]
 
       -- so the edges close no circle
