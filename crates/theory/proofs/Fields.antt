@@ -57,7 +57,7 @@ module _ {A : Type 0} where
     field_set_equal l i j x same = elim (cases_eq j i) [ inl e ↦ here e (cases_lt i (length l)) | inr ne ↦ field_set_other l i j x ne ]
       where
         here : j ≡ i → (i < length l) ⊎ (length l ≤ i) → field f d (set l i x) j ≡ field f d l j
-        here e (inl lt) = ap (field f d (set l i x)) e ∙ (field_set_same l i x lt ∙ same e)
+        here e (inl lt) = cc (field_set_same l i x lt, same e)
         here e (inr le) =
             let past : length (set l i x) ≤ j = (let n = length-set l i x in omega arith) in
             field_past (set l i x) j past ∙ sym (field_past l j (omega arith))

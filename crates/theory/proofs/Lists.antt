@@ -147,6 +147,6 @@ distinct_without y (j ∷ l) d = elim (cases_eq j y) [
 pub length_without : (y : ℕ) (l : List ℕ) → Distinct l → In y l → length l ≡ suc (length (without y l))
 length_without y [] d m = absurd m
 length_without y (j ∷ l) d (inl e) =
-    ap suc (ap length (sym (without_none y l (λ m. all_in (λ i. j ≡ i → ⊥) y l d.0 m (sym e)))) ∙ sym (ap length (without_cons_same y j l (sym e))))
+    cc (without_none y l (λ m. all_in (λ i. j ≡ i → ⊥) y l d.0 m (sym e)), without_cons_same y j l (sym e))
 length_without y (j ∷ l) d (inr m) =
-    ap suc (length_without y l d.1 m ∙ sym (ap length (without_cons_other y j l (λ e. all_in (λ i. j ≡ i → ⊥) y l d.0 m e))))
+    cc (length_without y l d.1 m, without_cons_other y j l (all_in (λ i. j ≡ i → ⊥) y l d.0 m))
