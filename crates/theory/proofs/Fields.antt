@@ -1,7 +1,8 @@
 -- Lists as memory: one field of a list's elements, and its value after a write and after any list of writes: at the written places, where
 -- writes leave it as it was, and elsewhere.
-use Rattle.std.proofs.Common.{◌≡◌, ℕ, ◌<◌, ◌≤◌, cond, eqb, ◌⊎◌, List, [], ◌∷◌, length, set, Some, sym, refl, ap, ◌∙◌, subst, inl, inr, arith, length-set}
+use Rattle.std.proofs.Common.{◌≡◌, ℕ, ◌<◌, ◌≤◌, cond, eqb, List, [], ◌∷◌, length, set, Some, sym, refl, ap, ◌∙◌, subst, inl, inr, arith, length-set}
 use Rattle.std.specs.List.{slice_get, AllByRecursion}
+use Rattle.std.proofs.lemmas.List.{set_past}
 use Rattle.std.proofs.lemmas.Option.{slice_get_cases, slice_get_past, gets}
 use Rattle.std.proofs.lemmas.Grind.{common_steps}
 use Rattle.std.proofs.lemmas.Bool.{cases_eq, cases_lt, eq-eqb, ne_eqb}
@@ -54,13 +55,10 @@ module _ {A : Type 0} where
 
     -- a write elsewhere, or of the value that the field has there
     field_set_equal : (l : List A) (i j : ℕ) (x : A) → (j ≡ i → f x ≡ field f d l j) → field f d (set l i x) j ≡ field f d l j
-    field_set_equal l i j x same = elim (cases_eq j i) [ inl e ↦ here e (cases_lt i (length l)) | inr ne ↦ field_set_other l i j x ne ]
-      where
-        here : j ≡ i → (i < length l) ⊎ (length l ≤ i) → field f d (set l i x) j ≡ field f d l j
-        here e (inl lt) = cc (field_set_same l i x lt, same e)
-        here e (inr le) =
-            let past : length (set l i x) ≤ j = (let n = length-set l i x in omega arith) in
-            field_past (set l i x) j past ∙ sym (field_past l j (omega arith))
+    field_set_equal l i j x same = elim (cases_eq j i) [
+      | inl e ↦ elim (cases_lt i (length l)) [ inl lt ↦ cc (field_set_same l i x lt, same e) | inr le ↦ rw (set_past l i x le) ]
+      | inr ne ↦ field_set_other l i j x ne
+    ]
 
     -- ---- writes, one after the other
 
