@@ -1,24 +1,38 @@
 -- From what each call does to the history, by induction on the calls: a call that changes the graph brings an entry with itself as
 -- the point, an operation that finishes without a change one with a point from its start on, any other call none.
-use Rattle.std.proofs.Common.{◌≡◌, ℕ, zero, suc, ◌<◌, ◌≤◌, ◌⊎◌, List, [], Some, None, Option, sym, refl, ap, ◌∙◌, subst, inl, inr, arith}
-use Rattle.std.proofs.lemmas.Bool.{cases_eq, cases_order, cases_lt}
+use Rattle.std.proofs.Common.{◌≡◌, ℕ, zero, suc, ◌<◌, ◌≤◌, ◌⊎◌, List, [], Some, sym, refl, ap, ◌∙◌, subst, inl, inr, arith}
+use Rattle.std.specs.List.{AllByRecursion}
+use Rattle.std.proofs.Math.Nat.{le-suc_iff}
+use Rattle.std.proofs.lemmas.Bool.{cases_eq, cases_lt}
 use Rattle.nodes.specs.declared.controller.Answer.{Answer}
 use Rattle.nodes.specs.declared.controller.Answer.TheVariants.{Yes, Circle}
-use Rattle.law.specs.History.{latest, Behind, Same, empty, changed, Run, Op, Entry, replayed, entries_of, Each, Began, Steps, Ends, HandsOver, Over, Running, Changed, Consistent, One}
+use Rattle.law.specs.History.{Behind, Same, empty, changed, Run, Op, Entry, replayed, entries_of, Began, Steps, Ends, HandsOver, Over, Running, Changed, Consistent, One}
 use Rattle.law.specs.Core.{Point, Due, Changes, Call, Assembly}
 use Rattle.law.proofs.Graphs.{same_sym, same_trans, changed_same, right_same}
 use Rattle.law.proofs.Lists.{insert, entries_of_other, entries_of_own, entries_of_none, each_insert, each_map, replayed_early, replayed_all, consistent_still, replayed_still, consistent_end, replayed_end}
 use Rattle.law.proofs.Events.{began_by, same_op, steps_one, end_step, ending, over_more, changed_more, changed_less, not_yet, ran}
 
 module _ {K : Type 0} (r : Run K) where
+  -- what o answers at call j, by its one entry
+  abbrev Answered : List (Entry K) → Op K → ℕ → Type 0
+  Answered h o j = (a : Answer) × (r.handing j o.by ≡ Some a) × One r h o a j
+
+  -- the entries of o, which has not finished by call n: one with yes where it has changed the graph, else none
+  abbrev Entered : ℕ → List (Entry K) → Op K → Type 0
+  Entered n h o = (Changed r n o × One r h o Yes n) ⊎ ((Changed r n o → ⊥) × (entries_of o.start h ≡ []))
+
+  -- what o answers at call n, and why
+  abbrev Ended : ℕ → Op K → Type 0
+  Ended n o = (a : Answer) × (r.handing n o.by ≡ Some a) × Due r n o a
+
   -- what is carried from call to call
   record SoFar (n : ℕ) (h : List (Entry K)) : Type 0 where
     consistent : Consistent r empty 0 h
-    ended : (o : Op K) (j : ℕ) → j ≤ n → Ends r o j → (a : Answer) × (r.handing j o.by ≡ Some a) × One r h o a j
-    running : (o : Op K) → Running r n o → (Changed r n o × One r h o Yes n) ⊎ ((Changed r n o → ⊥) × (entries_of o.start h ≡ []))
-    only : Each (λ e. Began r n e.op) h
+    ended : (o : Op K) (j : ℕ) → j ≤ n → Ends r o j → Answered h o j
+    running : (o : Op K) → Running r n o → Entered n h o
+    only : AllByRecursion (λ e. Began r n e.op) h
     graphs : (i : ℕ) → i ≤ n → Same (replayed i empty h) (r.graph i)
-    points : Each (λ e. e.point ≤ n) h
+    points : AllByRecursion (λ e. e.point ≤ n) h
 
   began_more : (n : ℕ) (o : Op K) → Began r n o → Began r (suc n) o
   began_more n o b = let le : o.start ≤ n = b.by_then in record { first = b.first; by_then = omega arith; is = b.is }
@@ -26,20 +40,18 @@ module _ {K : Type 0} (r : Run K) where
   one_more : (h : List (Entry K)) (o : Op K) (a : Answer) (n : ℕ) → One r h o a n → One r h o a (suc n)
   one_more h o a n w = let le : w.0 ≤ n = w.2 in (w.0, w.1, omega arith, w.3)
 
-  only_more : (n : ℕ) (h : List (Entry K)) → Each (λ e. Began r n e.op) h → Each (λ e. Began r (suc n) e.op) h
+  only_more : (n : ℕ) (h : List (Entry K)) → AllByRecursion (λ e. Began r n e.op) h → AllByRecursion (λ e. Began r (suc n) e.op) h
   only_more n h q = each_map (λ e. Began r n e.op) (λ e. Began r (suc n) e.op) (λ e b. began_more n e.op b) h q
 
-  points_more : (n : ℕ) (h : List (Entry K)) → Each (λ e. e.point ≤ n) h → Each (λ e. e.point ≤ suc n) h
+  points_more : (n : ℕ) (h : List (Entry K)) → AllByRecursion (λ e. e.point ≤ n) h → AllByRecursion (λ e. e.point ≤ suc n) h
   points_more n h q = each_map (λ e. e.point ≤ n) (λ e. e.point ≤ suc n) (λ e b. omega arith) h q
 
   -- an operation that runs after call suc n ran before it, or was started by it
   came : (n : ℕ) (o : Op K) → Running r (suc n) o → Running r n o ⊎ (o.start ≡ suc n)
-  came n o w = go (cases_order o.start (suc n))
-    where
-      go : (o.start ≡ suc n) ⊎ ((o.start < suc n) ⊎ (suc n < o.start)) → Running r n o ⊎ (o.start ≡ suc n)
-      go (inl e) = inr e
-      go (inr (inl lt)) = inl (record { first = w.0.first; by_then = omega arith; is = w.0.is }, λ x. w.1 (over_more r n o x))
-      go (inr (inr lt)) = absurd (let le : o.start ≤ suc n = w.0.by_then in omega arith)
+  came n o w = elim (le-suc_iff.0 w.0.by_then) [
+    | inl le ↦ inl (record { first = w.0.first; by_then = le; is = w.0.is }, λ x. w.1 (over_more r n o x))
+    | inr e ↦ inr e
+  ]
 
   fresh : (n : ℕ) (h : List (Entry K)) → SoFar n h → (o : Op K) → o.start ≡ suc n → entries_of o.start h ≡ []
   fresh n h s o e =
@@ -48,12 +60,7 @@ module _ {K : Type 0} (r : Run K) where
 
   -- by call suc n, or at it
   replayed_suc : (P : ℕ → Type 0) (n : ℕ) → ((j : ℕ) → j ≤ n → P j) → P (suc n) → (j : ℕ) → j ≤ suc n → P j
-  replayed_suc P n f p j le = go (cases_order j (suc n))
-    where
-      go : (j ≡ suc n) ⊎ ((j < suc n) ⊎ (suc n < j)) → P j
-      go (inl e) = rw e p
-      go (inr (inl lt)) = f j (omega arith)
-      go (inr (inr lt)) = absurd (omega arith)
+  replayed_suc P n f p j le = elim (le-suc_iff.0 le) [ inl l ↦ f j l | inr e ↦ rw e p ]
 
   -- ---- no entry for this call: the graph stays, and an operation that finishes has changed it before
 
@@ -65,7 +72,7 @@ module _ {K : Type 0} (r : Run K) where
     quiet : Same (r.graph n) (r.graph (suc n)) → ((o : Op K) → Ends r o (suc n) → Changed r n o) → SoFar (suc n) h
     quiet same ends = record {
       consistent = s.consistent;
-      ended = λ o. replayed_suc (λ j. Ends r o j → (a : Answer) × (r.handing j o.by ≡ Some a) × One r h o a j) n (λ j le e. s.ended o j le e) (now o);
+      ended = λ o. replayed_suc (λ j. Ends r o j → Answered h o j) n (s.ended o) (now o);
       running = λ o w. going o (came n o w) w;
       only = only_more n h s.only;
       graphs = as_before same;
@@ -73,34 +80,25 @@ module _ {K : Type 0} (r : Run K) where
     }
       where
         less : (o : Op K) → Changed r (suc n) o → Changed r n o
-        less o w = go (changed_less r n o w)
-          where
-            go : Changed r n o ⊎ (Steps r o (suc n) × (Same (r.graph n) (r.graph (suc n)) → ⊥)) → Changed r n o
-            go (inl x) = x
-            go (inr x) = absurd (x.1 same)
+        less o w = elim (changed_less r n o w) [ inl x ↦ x | inr x ↦ absurd (x.1 same) ]
 
-        has : (o : Op K) → Changed r n o → (Changed r n o × One r h o Yes n) ⊎ ((Changed r n o → ⊥) × (entries_of o.start h ≡ [])) → One r h o Yes n
-        has o w (inl x) = x.1
-        has o w (inr x) = absurd (x.0 w)
-
-        now : (o : Op K) → Ends r o (suc n) → (a : Answer) × (r.handing (suc n) o.by ≡ Some a) × One r h o a (suc n)
+        now : (o : Op K) → Ends r o (suc n) → Answered h o (suc n)
         now o e = go (c.ends o e)
           where
             one : One r h o Yes n
-            one = has o (ends o e) (s.running o (ran r n o (end_step r (suc n) o e) (c.alive o (end_step r (suc n) o e))))
+            one =
+                let step = end_step r (suc n) o e in
+                elim (s.running o (ran r n o step (c.alive o step))) [ inl x ↦ x.1 | inr x ↦ absurd (x.0 (ends o e)) ]
 
-            go : (a : Answer) × (r.handing (suc n) o.by ≡ Some a) × Due r (suc n) o a → (a : Answer) × (r.handing (suc n) o.by ≡ Some a) × One r h o a (suc n)
+            go : Ended (suc n) o → Answered h o (suc n)
             go (a, g, inl d) = (a, g, rw d.1 (one_more h o Yes n one))
             go (a, g, inr d) = absurd (d.0 (changed_more r n o (ends o e)))
 
-        going : (o : Op K) → Running r n o ⊎ (o.start ≡ suc n) → Running r (suc n) o →
-            (Changed r (suc n) o × One r h o Yes (suc n)) ⊎ ((Changed r (suc n) o → ⊥) × (entries_of o.start h ≡ []))
-        going o (inl w) _ = go (s.running o w)
-          where
-            go : (Changed r n o × One r h o Yes n) ⊎ ((Changed r n o → ⊥) × (entries_of o.start h ≡ [])) →
-                (Changed r (suc n) o × One r h o Yes (suc n)) ⊎ ((Changed r (suc n) o → ⊥) × (entries_of o.start h ≡ []))
-            go (inl x) = inl (changed_more r n o x.0, one_more h o Yes n x.1)
-            go (inr x) = inr (λ y. x.0 (less o y), x.1)
+        going : (o : Op K) → Running r n o ⊎ (o.start ≡ suc n) → Running r (suc n) o → Entered (suc n) h o
+        going o (inl w) _ = elim (s.running o w) [
+          | inl x ↦ inl (changed_more r n o x.0, one_more h o Yes n x.1)
+          | inr x ↦ inr (λ y. x.0 (less o y), x.1)
+        ]
         going o (inr e) w = inr (not_yet r n o w.0 e, fresh n h s o e)
 
     -- ---- an entry for the operation whose step this call is
@@ -111,7 +109,7 @@ module _ {K : Type 0} (r : Run K) where
         Consistent r empty 0 (insert e h) → ((i : ℕ) → i ≤ suc n → Same (replayed i empty (insert e h)) (r.graph i)) → SoFar (suc n) (insert e h)
     with_entry e step none from to end left consistent graphs = record {
       consistent = consistent;
-      ended = λ o. replayed_suc (λ j. Ends r o j → (a : Answer) × (r.handing j o.by ≡ Some a) × One r (insert e h) o a j) n (before o) (now o);
+      ended = λ o. replayed_suc (λ j. Ends r o j → Answered (insert e h) o j) n (before o) (now o);
       running = λ o w. going o (cases_eq e.op.start o.start) w;
       only = each_insert (λ x. Began r (suc n) x.op) e h (began_by r (suc n) e.op step) (only_more n h s.only);
       graphs = graphs;
@@ -126,7 +124,7 @@ module _ {K : Type 0} (r : Run K) where
             let w : One r (insert e h) e.op e.answer (suc n) = (e.point, from, to, entries_of_own e h none) in
             subst (λ (o' : Op K). One r (insert e h) o' a (suc n)) p (subst (λ (a' : Answer). One r (insert e h) e.op a' (suc n)) q w)
 
-        before : (o : Op K) (j : ℕ) → j ≤ n → Ends r o j → (a : Answer) × (r.handing j o.by ≡ Some a) × One r (insert e h) o a j
+        before : (o : Op K) (j : ℕ) → j ≤ n → Ends r o j → Answered (insert e h) o j
         before o j le x =
             let w = s.ended o j le x in
             let b : Began r j o = began_by r j o (end_step r j o x) in
@@ -135,13 +133,12 @@ module _ {K : Type 0} (r : Run K) where
             c.alive e.op step (j, le, rw q x) in
             (w.0, w.1, (w.2.0, w.2.1, w.2.2, rest o ne ∙ w.2.3))
 
-        now : (o : Op K) → Ends r o (suc n) → (a : Answer) × (r.handing (suc n) o.by ≡ Some a) × One r (insert e h) o a (suc n)
+        now : (o : Op K) → Ends r o (suc n) → Answered (insert e h) o (suc n)
         now o x =
             let p : e.op ≡ o = steps_one r (suc n) e.op o step (end_step r (suc n) o x) in
             (e.answer, subst (λ (o' : Op K). r.handing (suc n) o'.by ≡ Some e.answer) p (end (rw p x)), own o p e.answer refl)
 
-        going : (o : Op K) → (e.op.start ≡ o.start) ⊎ (e.op.start ≡ o.start → ⊥) → Running r (suc n) o →
-            (Changed r (suc n) o × One r (insert e h) o Yes (suc n)) ⊎ ((Changed r (suc n) o → ⊥) × (entries_of o.start (insert e h) ≡ []))
+        going : (o : Op K) → (e.op.start ≡ o.start) ⊎ (e.op.start ≡ o.start → ⊥) → Running r (suc n) o → Entered (suc n) (insert e h) o
         going o (inl p) w =
             let q : e.op ≡ o = same_op r (suc n) (suc n) e.op o (began_by r (suc n) e.op step) w.0 p in
             let z = left (rw q w.1) in
@@ -149,20 +146,13 @@ module _ {K : Type 0} (r : Run K) where
         going o (inr ne) w = other (came n o w)
           where
             less : Changed r (suc n) o → Changed r n o
-            less y = go (changed_less r n o y)
-              where
-                go : Changed r n o ⊎ (Steps r o (suc n) × (Same (r.graph n) (r.graph (suc n)) → ⊥)) → Changed r n o
-                go (inl x) = x
-                go (inr x) = absurd (ne (ap (λ (o' : Op K). o'.start) (steps_one r (suc n) e.op o step x.0)))
+            less y = elim (changed_less r n o y) [ inl x ↦ x | inr x ↦ absurd (ne (ap (λ (o' : Op K). o'.start) (steps_one r (suc n) e.op o step x.0))) ]
 
-            go : (Changed r n o × One r h o Yes n) ⊎ ((Changed r n o → ⊥) × (entries_of o.start h ≡ [])) →
-                (Changed r (suc n) o × One r (insert e h) o Yes (suc n)) ⊎ ((Changed r (suc n) o → ⊥) × (entries_of o.start (insert e h) ≡ []))
-            go (inl x) = let m = one_more h o Yes n x.1 in inl (changed_more r n o x.0, (m.0, m.1, m.2, rest o ne ∙ m.3))
-            go (inr x) = inr (λ y. x.0 (less y), rest o ne ∙ x.1)
-
-            other : Running r n o ⊎ (o.start ≡ suc n) →
-                (Changed r (suc n) o × One r (insert e h) o Yes (suc n)) ⊎ ((Changed r (suc n) o → ⊥) × (entries_of o.start (insert e h) ≡ []))
-            other (inl y) = go (s.running o y)
+            other : Running r n o ⊎ (o.start ≡ suc n) → Entered (suc n) (insert e h) o
+            other (inl y) = elim (s.running o y) [
+              | inl x ↦ let m = one_more h o Yes n x.1 in inl (changed_more r n o x.0, (m.0, m.1, m.2, rest o ne ∙ m.3))
+              | inr x ↦ inr (λ z. x.0 (less z), rest o ne ∙ x.1)
+            ]
             other (inr y) = inr (not_yet r n o w.0 y, rest o ne ∙ fresh n h s o y)
 
     -- ---- the three ways on
@@ -180,16 +170,12 @@ module _ {K : Type 0} (r : Run K) where
         start = (began_by r (suc n) o w.step).by_then
 
         none : entries_of o.start h ≡ []
-        none = go (s.running o (ran r n o w.step (c.alive o w.step)))
-          where
-            go : (Changed r n o × One r h o Yes n) ⊎ ((Changed r n o → ⊥) × (entries_of o.start h ≡ [])) → entries_of o.start h ≡ []
-            go (inl x) = absurd (w.first x.0)
-            go (inr x) = x.1
+        none = elim (s.running o (ran r n o w.step (c.alive o w.step))) [ inl x ↦ absurd (w.first x.0) | inr x ↦ x.1 ]
 
         end : Ends r o (suc n) → r.handing (suc n) o.by ≡ Some Yes
         end x = go (c.ends o x)
           where
-            go : (a : Answer) × (r.handing (suc n) o.by ≡ Some a) × Due r (suc n) o a → r.handing (suc n) o.by ≡ Some Yes
+            go : Ended (suc n) o → r.handing (suc n) o.by ≡ Some Yes
             go (a, g, inl d) = rw d.1 at g
             go (a, g, inr d) = absurd (d.0 now)
 
@@ -218,11 +204,7 @@ module _ {K : Type 0} (r : Run K) where
         step = end_step r (suc n) o x
 
         none : entries_of o.start h ≡ []
-        none = go (s.running o (ran r n o step (c.alive o step)))
-          where
-            go : (Changed r n o × One r h o Yes n) ⊎ ((Changed r n o → ⊥) × (entries_of o.start h ≡ [])) → entries_of o.start h ≡ []
-            go (inl y) = absurd (still (changed_more r n o y.0))
-            go (inr y) = y.1
+        none = elim (s.running o (ran r n o step (c.alive o step))) [ inl y ↦ absurd (still (changed_more r n o y.0)) | inr y ↦ y.1 ]
 
         at_m : Same (replayed m empty h) (r.graph m)
         at_m = as_before same m p.to
@@ -231,18 +213,16 @@ module _ {K : Type 0} (r : Run K) where
         consistent = consistent_still r e (r.graph m) p.right p.still h empty 0 (omega arith) at_m s.consistent
 
         graphs : (i : ℕ) → i ≤ suc n → Same (replayed i empty (insert e h)) (r.graph i)
-        graphs i le = go (cases_lt i m)
-          where
-            go : (i < m) ⊎ (m ≤ i) → Same (replayed i empty (insert e h)) (r.graph i)
-            go (inl lt) = rw (replayed_early i e lt empty h) (as_before same i le)
-            go (inr ge) = same_trans (replayed i empty (insert e h)) (replayed i empty h) (r.graph i)
-                (replayed_still r e (r.graph m) p.right p.still i ge h empty 0 at_m s.consistent) (as_before same i le)
+        graphs i le = elim (cases_lt i m) [
+          | inl lt ↦ rw (replayed_early i e lt empty h) (as_before same i le)
+          | inr ge ↦ same_trans (replayed i empty (insert e h)) (replayed i empty h) (r.graph i)
+              (replayed_still r e (r.graph m) p.right p.still i ge h empty 0 at_m s.consistent) (as_before same i le)
+        ]
 
     extend : (h' : List (Entry K)) × SoFar (suc n) h'
     extend = go c.turn
       where
-        due : Same (r.graph n) (r.graph (suc n)) → (o : Op K) → Ends r o (suc n) →
-            (a : Answer) × (r.handing (suc n) o.by ≡ Some a) × Due r (suc n) o a → (h' : List (Entry K)) × SoFar (suc n) h'
+        due : Same (r.graph n) (r.graph (suc n)) → (o : Op K) → Ends r o (suc n) → Ended (suc n) o → (h' : List (Entry K)) × SoFar (suc n) h'
         due same o x (a, g, inl d) = (h, quiet same (λ p y. before p (steps_one r (suc n) o p (end_step r (suc n) o x) (end_step r (suc n) p y)) (changed_less r n o d.0)))
           where
             before : (p : Op K) → o ≡ p → Changed r n o ⊎ (Steps r o (suc n) × (Same (r.graph n) (r.graph (suc n)) → ⊥)) → Changed r n p
@@ -260,24 +240,18 @@ module _ {K : Type 0} (r : Run K) where
 
   -- ---- all calls
 
-  none_at_0 : (c : ℕ) (o : Op K) → ◌≡◌ {A = Option (Op K)} None (Some o) → ⊥
-  none_at_0 c o q = let z : ◌≡◌ {A = ℕ} 0 1 = cc in omega arith
-
   so_far : Same (r.graph 0) empty → ((n : ℕ) → Call r n) → (n : ℕ) → (h : List (Entry K)) × SoFar n h
   so_far first calls zero = (
     [],
     record {
       consistent = tt;
-      ended = λ o j le e. absurd (none_at_0 o.by o (subst (λ (i : ℕ). latest r o.by i ≡ Some o) (zero_of j le) e.runs));
+      ended = λ o j le e. let z : j ≡ 0 = omega arith in cc;
       running = λ o w. inr (λ y. absurd (let lt : y.0 < 0 = y.1 in omega arith), refl);
       only = tt;
-      graphs = λ i le. rw (zero_of i le) (same_sym (r.graph 0) empty first);
+      graphs = λ i le. let z : i ≡ 0 = omega arith in rw z (same_sym (r.graph 0) empty first);
       points = tt;
     },
   )
-    where
-      zero_of : (j : ℕ) → j ≤ 0 → j ≡ 0
-      zero_of j le = omega arith
   so_far first calls (suc n) = let w = so_far first calls n in extend n w.0 w.1 (calls n)
 
 pub assembled : (K : Type 0) → Assembly K
@@ -293,14 +267,14 @@ assembled K r first calls n =
           running = s.running;
           only = s.only;
           graphs = s.graphs;
-          handed = λ o a i le x. handed w.0 s o a i le x;
+          handed = handed w.0 s;
         },
       );
       behind = behind;
     }
   where
     handed : (h : List (Entry K)) → SoFar r n h → (o : Op K) (a : Answer) (i : ℕ) → i ≤ n → HandsOver r o a i → One r h o a i
-    handed h s o a zero le x = absurd (none_at_0 r o.by o x.runs)
+    handed h s o a zero le x = cc
     handed h s o a (suc k) le x =
         let q = (calls k).hands o a x in
         let lj : q.0 ≤ k = q.1 in
@@ -313,5 +287,5 @@ assembled K r first calls n =
         rw (sym e) (m.0, m.1, omega arith, m.3)
 
     behind : (o : Op K) (j : ℕ) → j ≤ n → Ends r o j → r.handing j o.by ≡ Some Circle → (o.request.u ≡ o.request.v → ⊥) → Behind r o.request o.by o.start j
-    behind o zero le x g ne = absurd (none_at_0 r o.by o x.runs)
+    behind o zero le x g ne = cc
     behind o (suc k) le x g ne = (calls k).behind o x g ne

@@ -1,11 +1,12 @@
 -- The statement of a history refutes two wrong runs, and an honest one and the empty one meet it.
-use Rattle.std.proofs.Common.{◌≡◌, ℕ, zero, suc, ◌<◌, ◌≤◌, ◌⊎◌, List, [], ◌∷◌, Some, None, Option, sym, refl, ap, ◌∙◌, subst, inl, inr, arith}
+use Rattle.std.proofs.Common.{◌≡◌, ℕ, zero, suc, ◌<◌, ◌≤◌, List, [], ◌∷◌, Some, Option, sym, refl, ap, ◌∙◌, subst, inl, inr, arith}
+use Rattle.std.specs.List.{AllByRecursion}
 use Rattle.std.proofs.lemmas.Bool.{eq-eqb, le-leb, cases_eq}
 use Rattle.std.specs.declared.cmp.Ordering.{Ordering}
 use Rattle.nodes.specs.declared.controller.Answer.{Answer}
 use Rattle.nodes.specs.declared.controller.Answer.TheVariants.{Yes, Full}
 use Rattle.nodes.specs.Memory.{Memory, fresh, fresh_nodes}
-use Rattle.law.specs.History.{Same, empty, changed, Request, Run, Op, Entry, entries_of, replayed, Each, latest, Began, Consistent, History, Linearizes}
+use Rattle.law.specs.History.{Same, empty, changed, Request, Op, Entry, entries_of, replayed, Began, Consistent, History, Linearizes}
 use Rattle.law.specs.History.{Event.started, Event.finished}
 use Rattle.law.specs.Ledger.{Stage, Move, Ledger}
 use Rattle.law.specs.Ledger.{Stage.rest, Stage.seek, Stage.done, Went.sets}
@@ -20,19 +21,14 @@ use Rattle.law.proofs.Ledgers.{linearized}
 abbrev first : Op ℕ
 first = record { start = 1; by = 0; request = add5 }
 
-only_first : (a : Answer) (h : List (Entry ℕ)) → Each (λ e. Began (idle_worker a) 2 e.op) h → entries_of 1 h ≡ h
+only_first : (a : Answer) (h : List (Entry ℕ)) → AllByRecursion (λ e. Began (idle_worker a) 2 e.op) h → entries_of 1 h ≡ h
 only_first a [] q = refl
 only_first a (x ∷ h) q = rw (eq-eqb x.op.start 1 one) (ap (λ (l : List (Entry ℕ)). x ∷ l) (only_first a h q.1))
   where
-    b : Began (idle_worker a) 2 x.op
-    b = q.0
-
-    go : (x.op.start ≡ 2) ⊎ (x.op.start ≡ 2 → ⊥) → x.op.start ≡ 1
-    go (inl e) = let k : finished 0 ≡ started x.op.by x.op.request = ap events (sym e) ∙ b.is in cc
-    go (inr ne) = let l : 0 < x.op.start = b.first in let g : x.op.start ≤ 2 = b.by_then in omega arith
-
     one : x.op.start ≡ 1
-    one = go (cases_eq x.op.start 2)
+    one =
+        let b : Began (idle_worker a) 2 x.op = q.0 in
+        elim (cases_eq x.op.start 2) [ inl e ↦ let k : finished 0 ≡ started x.op.by x.op.request = ap events (sym e) ∙ b.is in cc | inr ne ↦ omega arith ]
 
 -- the whole history is that one entry
 whole : (a : Answer) (l : Linearizes (idle_worker a) 2) → (m : ℕ) × (m ≤ 2) × (l.history.0 ≡ record { op = first; answer = a; point = m } ∷ [])
@@ -99,23 +95,14 @@ fine : (n : ℕ) → Linearizes honest n
 fine = linearized honest stages ledger
 
 no_calls : {K : Type 0} (order : K → K → Ordering) (first : ℕ) (m : Memory K) → History (run_of order (fresh first m) []) 0 []
-no_calls {K} order first m = record {
+no_calls order first m = record {
   consistent = tt;
-  ended = λ o j le e. absurd (none o (subst (λ (i : ℕ). latest r o.by i ≡ Some o) (zero_of j le) e.runs));
+  ended = λ o j le e. let z : j ≡ 0 = omega arith in cc;
   running = λ o w. inr (λ y. let lt : y.0 < 0 = y.1 in omega arith, refl);
   only = tt;
-  graphs = λ i le. rw (zero_of i le) (same_sym (graph_of (fresh_nodes m.nodes)) empty (fresh_graph m.nodes));
-  handed = λ o a i le e. absurd (none o (subst (λ (i : ℕ). latest r o.by i ≡ Some o) (zero_of i le) e.runs));
+  graphs = λ i le. let z : i ≡ 0 = omega arith in rw z (same_sym (graph_of (fresh_nodes m.nodes)) empty (fresh_graph m.nodes));
+  handed = λ o a i le e. let z : i ≡ 0 = omega arith in cc;
 }
-  where
-    r : Run K
-    r = run_of order (fresh first m) []
-
-    zero_of : (j : ℕ) → j ≤ 0 → j ≡ 0
-    zero_of j le = omega arith
-
-    none : (o : Op K) → ◌≡◌ {A = Option (Op K)} None (Some o) → ⊥
-    none o q = let z : ◌≡◌ {A = ℕ} 0 1 = cc in omega arith
 
 pub bites : {K : Type 0} (order : K → K → Ordering) → Bites order
 bites order = record { no_yes_without_a_link = no_yes; no_full_with_nodes_free = no_full; honest_is_met = fine; empty_list_is_met = no_calls order }

@@ -1,12 +1,13 @@
 -- Operations and their steps, read off the events of a run: which operation a step belongs to, and what one call more brings.
 use Rattle.std.proofs.Common.{◌≡◌, ℕ, zero, suc, ◌<◌, ◌≤◌, Bool, true, false, cond, eqb, ◌⊎◌, Some, None, Option, sym, refl, ap, ◌∙◌, inl, inr, arith}
-use Rattle.std.proofs.lemmas.Bool.{eqb-true, cases_order}
+use Rattle.std.proofs.Math.Nat.{le-suc_iff}
+use Rattle.std.proofs.lemmas.Bool.{eqb-true, cases_lt}
 use Rattle.law.specs.History.{Same, Run, Op, Request, Event, latest, Began, Steps, Ends, Over, Running, Changed}
 use Rattle.law.specs.History.{Event.started, Event.stepped, Event.finished, Event.collected, Event.other}
 
 module _ {K : Type 0} (r : Run K) where
   pub latest_began : (c i : ℕ) (o : Op K) → latest r c i ≡ Some o → (o.by ≡ c) × Began r i o
-  latest_began c zero o q = absurd (let z : ◌≡◌ {A = ℕ} 0 1 = cc in omega arith)
+  latest_began c zero o q = cc
   latest_began c (suc i) o q = go (r.event (suc i)) refl (latest_began c i o)
     where
       old : (o.by ≡ c) × Began r i o → (o.by ≡ c) × Began r (suc i) o
@@ -43,14 +44,11 @@ module _ {K : Type 0} (r : Run K) where
   pub steps_one : (i : ℕ) (o p : Op K) → Steps r o i → Steps r p i → o ≡ p
   steps_one i o p s t = go s.is t.is
     where
-      some : o.by ≡ p.by → o ≡ p
-      some e = let x = s.runs in let y = t.runs in let z : latest r o.by i ≡ latest r p.by i = ap (λ (c : ℕ). latest r c i) e in cc
-
       go : (r.event i ≡ stepped o.by) ⊎ (r.event i ≡ finished o.by) → (r.event i ≡ stepped p.by) ⊎ (r.event i ≡ finished p.by) → o ≡ p
-      go (inl x) (inl y) = some (cc)
-      go (inl x) (inr y) = some (cc)
-      go (inr x) (inl y) = some (cc)
-      go (inr x) (inr y) = some (cc)
+      go (inl x) (inl y) = let e : o.by ≡ p.by = cc in cc
+      go (inl x) (inr y) = cc
+      go (inr x) (inl y) = cc
+      go (inr x) (inr y) = let e : o.by ≡ p.by = cc in cc
 
   pub end_step : (i : ℕ) (o : Op K) → Ends r o i → Steps r o i
   end_step i o e = record { runs = e.runs; is = inr e.is }
@@ -59,19 +57,16 @@ module _ {K : Type 0} (r : Run K) where
   pub ending : (i : ℕ) → ((o : Op K) × Ends r o i) ⊎ ((o : Op K) → Ends r o i → ⊥)
   ending i = go (r.event i) refl
     where
-      no_end : (e : Event K) → r.event i ≡ e → ((c : ℕ) → e ≡ finished c → ⊥) → ((o : Op K) × Ends r o i) ⊎ ((o : Op K) → Ends r o i → ⊥)
-      no_end e q f = inr (λ o w. f o.by (sym q ∙ w.is))
-
       last : (c : ℕ) → r.event i ≡ finished c → (l : Option (Op K)) → latest r c i ≡ l → ((o : Op K) × Ends r o i) ⊎ ((o : Op K) → Ends r o i → ⊥)
-      last c q None e = inr (λ o w. let a = w.is in let b = w.runs in let f : o.by ≡ c = cc in let g : latest r o.by i ≡ None = rw f e in let z : ◌≡◌ {A = ℕ} 0 1 = cc in omega arith)
+      last c q None e = inr (λ o w. let f : o.by ≡ c = cc in cc)
       last c q (Some o) e = let f : o.by ≡ c = (latest_began c i o e).0 in inl (o, record { runs = ap (λ (d : ℕ). latest r d i) f ∙ e; is = rw f q })
 
       go : (e : Event K) → r.event i ≡ e → ((o : Op K) × Ends r o i) ⊎ ((o : Op K) → Ends r o i → ⊥)
-      go (started d t) q = no_end (started d t) q (λ c e. let z : ◌≡◌ {A = ℕ} 0 1 = cc in omega arith)
-      go (stepped d) q = no_end (stepped d) q (λ c e. let z : ◌≡◌ {A = ℕ} 0 1 = cc in omega arith)
+      go (started d t) q = inr (λ o w. cc)
+      go (stepped d) q = inr (λ o w. cc)
       go (finished d) q = last d q (latest r d i) refl
-      go (collected d a) q = no_end (collected d a) q (λ c e. let z : ◌≡◌ {A = ℕ} 0 1 = cc in omega arith)
-      go other q = no_end other q (λ c e. let z : ◌≡◌ {A = ℕ} 0 1 = cc in omega arith)
+      go (collected d a) q = inr (λ o w. cc)
+      go other q = inr (λ o w. cc)
 
   -- ---- one call more
 
@@ -82,33 +77,23 @@ module _ {K : Type 0} (r : Run K) where
   changed_more n o w = let le : w.0 < n = w.1 in (w.0, omega arith, w.2, w.3)
 
   pub changed_less : (n : ℕ) (o : Op K) → Changed r (suc n) o → Changed r n o ⊎ (Steps r o (suc n) × (Same (r.graph n) (r.graph (suc n)) → ⊥))
-  changed_less n o w = go (cases_order w.0 n)
-    where
-      go : (w.0 ≡ n) ⊎ ((w.0 < n) ⊎ (n < w.0)) → Changed r n o ⊎ (Steps r o (suc n) × (Same (r.graph n) (r.graph (suc n)) → ⊥))
-      go (inl e) = inr (rw e at w.2, rw e at w.3)
-      go (inr (inl lt)) = inl (w.0, lt, w.2, w.3)
-      go (inr (inr lt)) = absurd (let a : w.0 < suc n = w.1 in omega arith)
+  changed_less n o w = elim (cases_lt w.0 n) [
+    | inl lt ↦ inl (w.0, lt, w.2, w.3)
+    | inr ge ↦ let e : w.0 ≡ n = (let lt : w.0 < suc n = w.1 in omega arith) in inr (rw e at w.2, rw e at w.3)
+  ]
 
   -- an operation that call suc n starts has done nothing
   pub not_now : (n : ℕ) (o : Op K) → Began r (suc n) o → o.start ≡ suc n → Steps r o (suc n) → ⊥
-  not_now n o b e s = step (rw e at b.is) s.is
-    where
-      step : r.event (suc n) ≡ started o.by o.request → (r.event (suc n) ≡ stepped o.by) ⊎ (r.event (suc n) ≡ finished o.by) → ⊥
-      step k (inl q) = let z : ◌≡◌ {A = ℕ} 0 1 = cc in omega arith
-      step k (inr q) = let z : ◌≡◌ {A = ℕ} 0 1 = cc in omega arith
+  not_now n o b e s = elim s.is [ inl q ↦ cc | inr q ↦ cc ]
 
   pub not_yet : (n : ℕ) (o : Op K) → Began r (suc n) o → o.start ≡ suc n → Changed r (suc n) o → ⊥
-  not_yet n o b e w = go (changed_less n o w)
-    where
-      go : Changed r n o ⊎ (Steps r o (suc n) × (Same (r.graph n) (r.graph (suc n)) → ⊥)) → ⊥
-      go (inl c) = let le : o.start ≤ suc c.0 = (began_by (suc c.0) o c.2).by_then in let lt : c.0 < n = c.1 in omega arith
-      go (inr s) = not_now n o b e s.0
+  not_yet n o b e w = elim (changed_less n o w) [
+    | inl c ↦ let le : o.start ≤ suc c.0 = (began_by (suc c.0) o c.2).by_then in let lt : c.0 < n = c.1 in omega arith
+    | inr s ↦ not_now n o b e s.0
+  ]
 
   -- what takes a step ran before
   pub ran : (n : ℕ) (o : Op K) → Steps r o (suc n) → (Over r n o → ⊥) → Running r n o
-  ran n o t alive = go (cases_order o.start (suc n)) (began_by (suc n) o t)
-    where
-      go : (o.start ≡ suc n) ⊎ ((o.start < suc n) ⊎ (suc n < o.start)) → Began r (suc n) o → Running r n o
-      go (inl e) b = absurd (not_now n o b e t)
-      go (inr (inl lt)) b = (record { first = b.first; by_then = omega arith; is = b.is }, alive)
-      go (inr (inr lt)) b = absurd (let le : o.start ≤ suc n = b.by_then in omega arith)
+  ran n o t alive =
+      let b = began_by (suc n) o t in
+      elim (le-suc_iff.0 b.by_then) [ inl le ↦ (record { first = b.first; by_then = le; is = b.is }, alive) | inr e ↦ absurd (not_now n o b e t) ]

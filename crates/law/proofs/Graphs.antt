@@ -1,5 +1,7 @@
 -- Graphs with the same jobs and waits: the same answers are right in them, and answers change them alike.
-use Rattle.std.proofs.Common.{ℕ, ◌⊎◌, inl, inr}
+use Rattle.std.proofs.Common.{ℕ}
+use Rattle.std.proofs.Math.Logic.{⊎_map}
+use Rattle.std.proofs.Math.Logic.Iff.{rfl, symm, trans}
 use Rattle.nodes.specs.declared.controller.Operation.{Operation}
 use Rattle.nodes.specs.declared.controller.Operation.TheVariants.{AddJob, RemoveJob, HasJob, AddWait, RemoveWait, HasWait}
 use Rattle.nodes.specs.declared.controller.Answer.{Answer}
@@ -7,22 +9,15 @@ use Rattle.nodes.specs.declared.controller.Answer.TheVariants.{Yes, No, Circle, 
 use Rattle.law.specs.History.{Graph, Same, Leads, Closes, Right, changed, answered, Request, Entry, after}
 use Rattle.law.specs.History.{Leads.last, Leads.more}
 
-or_map : {A B C : Type 0} → (A → B) → A ⊎ C → B ⊎ C
-or_map f (inl x) = inl (f x)
-or_map f (inr x) = inr x
-
 module _ {K : Type 0} where
   pub same_refl : (G : Graph K) → Same G G
-  same_refl G = record { job = λ k. (λ x. x, λ x. x); wait = λ a b. (λ x. x, λ x. x) }
+  same_refl G = record { job = λ k. rfl; wait = λ a b. rfl }
 
   pub same_sym : (G H : Graph K) → Same G H → Same H G
-  same_sym G H s = record { job = λ k. ((s.job k).1, (s.job k).0); wait = λ a b. ((s.wait a b).1, (s.wait a b).0) }
+  same_sym G H s = record { job = λ k. symm (s.job k); wait = λ a b. symm (s.wait a b) }
 
   pub same_trans : (G H I : Graph K) → Same G H → Same H I → Same G I
-  same_trans G H I s t = record {
-    job = λ k. (λ x. (t.job k).0 ((s.job k).0 x), λ x. (s.job k).1 ((t.job k).1 x));
-    wait = λ a b. (λ x. (t.wait a b).0 ((s.wait a b).0 x), λ x. (s.wait a b).1 ((t.wait a b).1 x));
-  }
+  same_trans G H I s t = record { job = λ k. trans (s.job k) (t.job k); wait = λ a b. trans (s.wait a b) (t.wait a b) }
 
   leads_same : (G H : Graph K) → Same G H → (a b : K) → Leads G.wait a b → Leads H.wait a b
   leads_same G H s a b (last w) = last ((s.wait a b).0 w)
@@ -31,10 +26,10 @@ module _ {K : Type 0} where
   changed_half : (G H : Graph K) → Same G H → (c : Operation) (u v : K) →
       let t : Request K = record { operation = c; u = u; v = v } in
       ((k : K) → (changed G t).job k → (changed H t).job k) × ((a b : K) → (changed G t).wait a b → (changed H t).wait a b)
-  changed_half G H s AddJob u v = (λ k. or_map (s.job k).0, λ a b. (s.wait a b).0)
+  changed_half G H s AddJob u v = (λ k. ⊎_map (s.job k).0 (λ x. x), λ a b. (s.wait a b).0)
   changed_half G H s RemoveJob u v = (λ k x. ((s.job k).0 x.0, x.1), λ a b x. ((s.wait a b).0 x.0, x.1, x.2))
   changed_half G H s HasJob u v = (λ k. (s.job k).0, λ a b. (s.wait a b).0)
-  changed_half G H s AddWait u v = (λ k. (s.job k).0, λ a b. or_map (s.wait a b).0)
+  changed_half G H s AddWait u v = (λ k. (s.job k).0, λ a b. ⊎_map (s.wait a b).0 (λ x. x))
   changed_half G H s RemoveWait u v = (λ k. (s.job k).0, λ a b x. ((s.wait a b).0 x.0, x.1))
   changed_half G H s HasWait u v = (λ k. (s.job k).0, λ a b. (s.wait a b).0)
 
@@ -67,22 +62,14 @@ module _ {K : Type 0} where
   right_by G H s f HasJob u v No x = λ j. x ((s.job u).1 j)
   right_by G H s f HasJob u v Circle x = x
   right_by G H s f HasJob u v Full x = x
-  right_by G H s f AddWait u v Yes x = ((s.job u).0 x.0, (s.job v).0 x.1, go x.2)
-    where
-      back : Closes H u v → Closes G u v
-      back (inl e) = inl e
-      back (inr l) = inr (leads_same H G (same_sym G H s) v u l)
-
-      go : G.wait u v ⊎ (Closes G u v → ⊥) → H.wait u v ⊎ (Closes H u v → ⊥)
-      go (inl w) = inl ((s.wait u v).0 w)
-      go (inr no_way) = inr (λ l. no_way (back l))
-  right_by G H s f AddWait u v No (inl x) = inl (λ j. x ((s.job u).1 j))
-  right_by G H s f AddWait u v No (inr x) = inr (λ j. x ((s.job v).1 j))
+  right_by G H s f AddWait u v Yes x =
+      let back : Closes H u v → Closes G u v = ⊎_map (λ e. e) (leads_same H G (same_sym G H s) v u) in
+      ((s.job u).0 x.0, (s.job v).0 x.1, ⊎_map (s.wait u v).0 (λ no_way l. no_way (back l)) x.2)
+  right_by G H s f AddWait u v No x = ⊎_map (λ y j. y ((s.job u).1 j)) (λ y j. y ((s.job v).1 j)) x
   right_by G H s f AddWait u v Circle x = ((s.job u).0 x.0, (s.job v).0 x.1, λ w. x.2 ((s.wait u v).1 w))
   right_by G H s f AddWait u v Full x = ((s.job u).0 x.0, (s.job v).0 x.1, λ w. x.2 ((s.wait u v).1 w), x.3)
   right_by G H s f RemoveWait u v Yes x = ((s.job u).0 x.0, (s.job v).0 x.1)
-  right_by G H s f RemoveWait u v No (inl x) = inl (λ j. x ((s.job u).1 j))
-  right_by G H s f RemoveWait u v No (inr x) = inr (λ j. x ((s.job v).1 j))
+  right_by G H s f RemoveWait u v No x = ⊎_map (λ y j. y ((s.job u).1 j)) (λ y j. y ((s.job v).1 j)) x
   right_by G H s f RemoveWait u v Circle x = x
   right_by G H s f RemoveWait u v Full x = x
   right_by G H s f HasWait u v Yes x = (s.wait u v).0 x

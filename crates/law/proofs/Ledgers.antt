@@ -1,6 +1,8 @@
 -- From a ledger to what each call does: the stage of a controller says what its operation has done so far.
-use Rattle.std.proofs.Common.{◌≡◌, ℕ, zero, suc, ◌<◌, ◌≤◌, ◌⊎◌, Some, sym, refl, ap, ◌∙◌, subst, inl, inr, arith}
-use Rattle.std.proofs.lemmas.Bool.{eq-eqb, ne_eqb, cases_eq, cases_order}
+use Rattle.std.proofs.Common.{◌≡◌, ℕ, zero, suc, ◌≤◌, ◌⊎◌, Some, sym, refl, ap, ◌∙◌, subst, inl, inr, arith}
+use Rattle.std.proofs.Math.Nat.{le-suc_iff}
+use Rattle.std.proofs.lemmas.Option.{same_Some}
+use Rattle.std.proofs.lemmas.Bool.{eq-eqb, ne_eqb, cases_eq}
 use Rattle.nodes.specs.declared.controller.JobRef.{JobRef}
 use Rattle.nodes.specs.declared.controller.Answer.{Answer}
 use Rattle.nodes.specs.declared.controller.Answer.TheVariants.{Circle}
@@ -18,11 +20,7 @@ module _ {K : Type 0} (r : Run K) where
   -- ---- what lasts over a call
 
   still_not : (n : ℕ) (o : Op K) → (Changed r n o → ⊥) → (Steps r o (suc n) → Unchanged r n) → Changed r (suc n) o → ⊥
-  still_not n o nay f w = go (changed_less r n o w)
-    where
-      go : Changed r n o ⊎ (Steps r o (suc n) × (Same (r.graph n) (r.graph (suc n)) → ⊥)) → ⊥
-      go (inl x) = nay x
-      go (inr x) = x.1 (f x.0)
+  still_not n o nay f w = elim (changed_less r n o w) [ inl x ↦ nay x | inr x ↦ x.1 (f x.0) ]
 
   due_more : (n : ℕ) (o : Op K) (a : Answer) → (Steps r o (suc n) → Unchanged r n) → Due r n o a → Due r (suc n) o a
   due_more n o a f (inl d) = inl (changed_more r n o d.0, d.1)
@@ -44,12 +42,7 @@ module _ {K : Type 0} (r : Run K) where
       go a c (more {b = b} w l) = more (seen a b w) (go b c l)
 
   not_over : (n : ℕ) (o : Op K) → (Over r n o → ⊥) → (Ends r o (suc n) → ⊥) → Over r (suc n) o → ⊥
-  not_over n o nay f w = go (cases_order w.0 (suc n))
-    where
-      go : (w.0 ≡ suc n) ⊎ ((w.0 < suc n) ⊎ (suc n < w.0)) → ⊥
-      go (inl e) = f (rw e at w.2)
-      go (inr (inl lt)) = nay (w.0, omega arith, w.2)
-      go (inr (inr lt)) = let le : w.0 ≤ suc n = w.1 in omega arith
+  not_over n o nay f w = elim (le-suc_iff.0 w.1) [ inl le ↦ nay (w.0, le, w.2) | inr e ↦ f (rw e at w.2) ]
 
   -- ---- what each stage says of its operation
 
@@ -80,9 +73,9 @@ module _ {K : Type 0} (r : Run K) where
         λ q ne. subst (λ (d : ℕ). Behind r t d o.start (suc n)) (sym (latest_began r c n o e).0) (rw same at (p.circle q ne)),
       )
   went n c o e step s s' (binds p) w = (w.0, (n, omega arith, step, p.differs))
-  went n c o e step s s' (sets p) w = (w.0, inl ((n, omega arith, step, p.differs), refl), λ q. absurd (let z : ◌≡◌ {A = ℕ} 0 1 = cc in omega arith))
+  went n c o e step s s' (sets p) w = (w.0, inl ((n, omega arith, step, p.differs), refl), λ q. cc)
   went n c o e step s s' (goes_on u) w = (w.0, changed_more r n o w.1)
-  went n c o e step s s' (ends_yes u) w = (w.0, inl (changed_more r n o w.1, refl), λ q. absurd (let z : ◌≡◌ {A = ℕ} 0 1 = cc in omega arith))
+  went n c o e step s s' (ends_yes u) w = (w.0, inl (changed_more r n o w.1, refl), λ q. cc)
   went n c o e step s s' (owes {t = t} {a = a} u) w = (w.0, due_more n o a (λ _. u) w.1, λ p q. behind_more t o.by o.start n (w.2 p q))
 
   turned : (n c : ℕ) (o : Op K) → Steps r o (suc n) → (s s' : Stage K) → Went r n c s s' → Status n o s → Same (r.graph n) (r.graph (suc n)) ⊎ ((o : Op K) × Changes r n o)
@@ -115,14 +108,12 @@ module _ {K : Type 0} (r : Run K) where
   source n c s s' (ends_yes u) w = w
   source n c s s' (owes u) w = w
 
-  target : (n c : ℕ) (s s' : Stage K) → Went r n c s s' → Alive (suc n) c s' → In (suc n) c s'
-  target n c s s' (seeks u) w = w
-  target n c s s' (settles u p) w = w
-  target n c s s' (binds p) w = w
-  target n c s s' (sets p) w = w
-  target n c s s' (goes_on u) w = w
-  target n c s s' (ends_yes u) w = w
-  target n c s s' (owes u) w = w
+  from_alive : (n c : ℕ) (s : Stage K) → Alive n c s → In n c s
+  from_alive n c rest w = tt
+  from_alive n c (seek t) w = w
+  from_alive n c (bound t) w = w
+  from_alive n c (owed t a) w = w
+  from_alive n c (done t a) w = absurd w.3
 
   -- a controller at which call suc n does nothing
   lasts : (n d : ℕ) → latest r d (suc n) ≡ latest r d n → ((o : Op K) → o.by ≡ d → Steps r o (suc n) → ⊥) → (s : Stage K) → In n d s → In (suc n) d s
@@ -158,29 +149,10 @@ module _ {K : Type 0} (r : Run K) where
     -- c's stage is s now, the others' stages last
     all_but : (n c : ℕ) (s : Stage K) → All n → Others r stage n c → ((d : ℕ) → (d ≡ c → ⊥) → latest r d (suc n) ≡ latest r d n) →
         ((o : Op K) → Steps r o (suc n) → o.by ≡ c) → stage (suc n) c ≡ s → In (suc n) c s → All (suc n)
-    all_but n c s all others same by e w d = go (cases_eq d c)
-      where
-        go : (d ≡ c) ⊎ (d ≡ c → ⊥) → In (suc n) d (stage (suc n) d)
-        go (inl q) = rw (q, e) w
-        go (inr ne) = rw (others d ne) (lasts n d (same d ne) (λ o b t. ne (sym b ∙ by o t)) (stage n d) (all d))
-
-    kinds : (o : Op K) (i : ℕ) (e : Event K) → r.event i ≡ e → Steps r o i → (e ≡ stepped o.by) ⊎ (e ≡ finished o.by)
-    kinds o i e q s = go s.is
-      where
-        go : (r.event i ≡ stepped o.by) ⊎ (r.event i ≡ finished o.by) → (e ≡ stepped o.by) ⊎ (e ≡ finished o.by)
-        go (inl x) = inl (cc)
-        go (inr x) = inr (cc)
-
-    no_steps : (n : ℕ) (e : Event K) → r.event (suc n) ≡ e → ((c : ℕ) → e ≡ stepped c → ⊥) → ((c : ℕ) → e ≡ finished c → ⊥) → (o : Op K) → Steps r o (suc n) → ⊥
-    no_steps n e q f g o s = go (kinds o (suc n) e q s)
-      where
-        go : (e ≡ stepped o.by) ⊎ (e ≡ finished o.by) → ⊥
-        go (inl x) = f o.by x
-        go (inr x) = g o.by x
-
-    no_hands : (n : ℕ) (e : Event K) → r.event (suc n) ≡ e → ((c : ℕ) (a : Answer) → e ≡ collected c a → ⊥) →
-        (o : Op K) (a : Answer) → HandsOver r o a (suc n) → (j : ℕ) × (j ≤ n) × Ends r o j × (r.handing j o.by ≡ Some a)
-    no_hands n e q f o a h = absurd (f o.by a (sym q ∙ h.is))
+    all_but n c s all others same by e w d = elim (cases_eq d c) [
+      | inl q ↦ rw (q, e) w
+      | inr ne ↦ rw (others d ne) (lasts n d (same d ne) (λ o b t. ne (sym b ∙ by o t)) (stage n d) (all d))
+    ]
 
     latest_new : (n c : ℕ) (t : Request K) → r.event (suc n) ≡ started c t → latest r c (suc n) ≡ Some (record { start = suc n; by = c; request = t })
     latest_new n c t q = rw (q, eq-eqb c c refl) refl
@@ -228,11 +200,11 @@ module _ {K : Type 0} (r : Run K) where
     next n all (started c t) q m = (
       all_but n c (seek t) all m.1 (λ d ne. latest_old n c d t q ne) (λ p x. absurd (none p x)) m.2
           (o, new, not_over n o (λ w. early w) (λ x. none o (end_step r (suc n) o x)), (refl, not_yet r n o began refl)),
-      no_step n m.0 none (no_hands n (started c t) q (λ c a x. let z : ◌≡◌ {A = ℕ} 0 1 = cc in omega arith)),
+      no_step n m.0 none (λ p a x. cc),
     )
       where
-        none : (o : Op K) → Steps r o (suc n) → ⊥
-        none = no_steps n (started c t) q (λ c x. let z : ◌≡◌ {A = ℕ} 0 1 = cc in omega arith) (λ c x. let z : ◌≡◌ {A = ℕ} 0 1 = cc in omega arith)
+        none : (p : Op K) → Steps r p (suc n) → ⊥
+        none p x = elim x.is [ inl y ↦ cc | inr y ↦ cc ]
 
         o : Op K
         o = record { start = suc n; by = c; request = t }
@@ -247,9 +219,9 @@ module _ {K : Type 0} (r : Run K) where
         early w = let a : suc n ≤ w.0 = (began_by r w.0 o (end_step r w.0 o w.2)).by_then in let b : w.0 ≤ n = w.1 in omega arith
     next n all (stepped c) q m = (
       all_but n c (stage (suc n) c) all m.0 (λ d ne. kept d) by_whom refl
-          (target n c (stage n c) (stage (suc n) c) m.1
-          (o, kept c ∙ a.1, not_over n o a.2 (no_end o), went n c o a.1 step (stage n c) (stage (suc n) c) m.1 a.3)),
-      step_call n c o a.1 a.2 step (stage n c) (stage (suc n) c) m.1 a.3 (λ p x. absurd (no_end p x)) no_hand,
+          (from_alive (suc n) c (stage (suc n) c)
+          (o, kept c ∙ a.1, not_over n o a.2 (λ x. cc), went n c o a.1 step (stage n c) (stage (suc n) c) m.1 a.3)),
+      step_call n c o a.1 a.2 step (stage n c) (stage (suc n) c) m.1 a.3 (λ p x. cc) (λ p b x. cc),
     )
       where
         kept : (d : ℕ) → latest r d (suc n) ≡ latest r d n
@@ -264,18 +236,12 @@ module _ {K : Type 0} (r : Run K) where
         step : Steps r o (suc n)
         step = stepping n c o a.1 (kept c) (inl q)
 
-        no_end : (p : Op K) → Ends r p (suc n) → ⊥
-        no_end p x = let y = x.is in let z : ◌≡◌ {A = ℕ} 0 1 = cc in omega arith
-
-        no_hand : (p : Op K) (a : Answer) → HandsOver r p a (suc n) → ⊥
-        no_hand p a x = let y = x.is in let z : ◌≡◌ {A = ℕ} 0 1 = cc in omega arith
-
         by_whom : (p : Op K) → Steps r p (suc n) → p.by ≡ c
         by_whom p x = ap (λ (y : Op K). y.by) (steps_one r (suc n) p o x step) ∙ (latest_began r c n o a.1).0
     next n all (finished c) q m = (
       all_but n c (done t ans) all m.0 (λ d ne. kept d) by_whom m.1.3
           (o, kept c ∙ a.1, (suc n, omega arith, record { runs = step.runs; is = rw by q }, handing)),
-      step_call n c o a.1 a.2 step (stage n c) (owed t ans) m.1.2 a.3 ends no_hand,
+      step_call n c o a.1 a.2 step (stage n c) (owed t ans) m.1.2 a.3 ends (λ p b x. cc),
     )
       where
         t : Request K
@@ -303,10 +269,7 @@ module _ {K : Type 0} (r : Run K) where
         handing = l.hands (suc n) c t ans m.1.3
 
         ends : (p : Op K) → Ends r p (suc n) → (t' : Request K) × (a' : Answer) × (owed t ans ≡ owed t' a') × (r.handing (suc n) p.by ≡ Some a')
-        ends p x = let y = x.is in let b : p.by ≡ c = cc in (t, ans, refl, rw b handing)
-
-        no_hand : (p : Op K) (a : Answer) → HandsOver r p a (suc n) → ⊥
-        no_hand p a x = let y = x.is in let z : ◌≡◌ {A = ℕ} 0 1 = cc in omega arith
+        ends p x = let b : p.by ≡ c = cc in (t, ans, refl, rw b handing)
 
         by_whom : (p : Op K) → Steps r p (suc n) → p.by ≡ c
         by_whom p x = ap (λ (y : Op K). y.by) (steps_one r (suc n) p o x step) ∙ by
@@ -315,8 +278,8 @@ module _ {K : Type 0} (r : Run K) where
       no_step n m.0 none hands,
     )
       where
-        none : (o : Op K) → Steps r o (suc n) → ⊥
-        none = no_steps n (collected c a) q (λ c x. let z : ◌≡◌ {A = ℕ} 0 1 = cc in omega arith) (λ c x. let z : ◌≡◌ {A = ℕ} 0 1 = cc in omega arith)
+        none : (p : Op K) → Steps r p (suc n) → ⊥
+        none p x = elim x.is [ inl y ↦ cc | inr y ↦ cc ]
 
         kept : (d : ℕ) → latest r d (suc n) ≡ latest r d n
         kept d = rw q refl
@@ -326,20 +289,18 @@ module _ {K : Type 0} (r : Run K) where
 
         hands : (p : Op K) (a' : Answer) → HandsOver r p a' (suc n) → (j : ℕ) × (j ≤ n) × Ends r p j × (r.handing j p.by ≡ Some a')
         hands p a' x =
-            let y = x.is in
             let b : p.by ≡ c = cc in
             let e : a ≡ a' = cc in
-            let f : Some w.0 ≡ Some p = sym (kept c ∙ w.1) ∙ (ap (λ (d : ℕ). latest r d (suc n)) (sym b) ∙ x.runs) in
-            let g : w.0 ≡ p = cc in
+            let g : w.0 ≡ p = same_Some w.0 p (sym (kept c ∙ w.1) ∙ (ap (λ (d : ℕ). latest r d (suc n)) (sym b) ∙ x.runs)) in
             let k = w.2 in
             (k.0, k.1, subst (λ (z : Op K). Ends r z k.0) g k.2, rw (b, ← e) k.3)
     next n all other q m = (
       λ d. rw (m.1 d) (lasts n d (rw q refl) (λ o _ x. none o x) (stage n d) (all d)),
-      no_step n m.0 none (no_hands n other q (λ c a x. let z : ◌≡◌ {A = ℕ} 0 1 = cc in omega arith)),
+      no_step n m.0 none (λ p a x. cc),
     )
       where
-        none : (o : Op K) → Steps r o (suc n) → ⊥
-        none = no_steps n other q (λ c x. let z : ◌≡◌ {A = ℕ} 0 1 = cc in omega arith) (λ c x. let z : ◌≡◌ {A = ℕ} 0 1 = cc in omega arith)
+        none : (p : Op K) → Steps r p (suc n) → ⊥
+        none p x = elim x.is [ inl y ↦ cc | inr y ↦ cc ]
 
     all_calls : (n : ℕ) → All n
     all_calls zero c = rw (l.resting c) tt

@@ -1,8 +1,10 @@
 -- One entry more in a history: it goes behind all entries with points up to its own. What that does to the entries of each
 -- operation, to the graphs after each call, and to consistency, for an entry that changes nothing and for one at the end.
 use Rattle.std.proofs.Common.{◌≡◌, ℕ, ◌<◌, ◌≤◌, Bool, true, false, cond, eqb, leb, ◌⊎◌, List, [], ◌∷◌, refl, ap, inl, inr, arith}
-use Rattle.std.proofs.lemmas.Bool.{eq-eqb, ne_eqb, le-leb, lt-leb, cases_lt}
-use Rattle.law.specs.History.{Graph, Same, Entry, Run, after, replayed, entries_of, Each, Right, Consistent, Steps}
+use Rattle.std.specs.List.{AllByRecursion}
+use Rattle.std.proofs.lemmas.List.Elements.{All-from_recursion, recursion_from_All, All-weaker}
+use Rattle.std.proofs.lemmas.Bool.{eq-eqb, ne_eqb, le-leb, lt-leb, cases_lt, cond_both}
+use Rattle.law.specs.History.{Graph, Same, Entry, Run, after, replayed, entries_of, Right, Consistent, Steps}
 use Rattle.law.proofs.Graphs.{same_sym, same_trans, after_same, right_same}
 
 module _ {K : Type 0} where
@@ -36,24 +38,20 @@ module _ {K : Type 0} where
       grind arith
 
   -- no entry is of an operation that starts later
-  pub entries_of_none : (s : ℕ) (h : List (Entry K)) → Each (λ e. e.op.start < s) h → entries_of s h ≡ []
+  pub entries_of_none : (s : ℕ) (h : List (Entry K)) → AllByRecursion (λ e. e.op.start < s) h → entries_of s h ≡ []
   entries_of_none s [] q = refl
   entries_of_none s (x ∷ h) q =
       let n : x.op.start < s = q.0 in
       rw (ne_eqb x.op.start s (λ e. omega arith)) (entries_of_none s h q.1)
 
-  pub each_insert : (P : Entry K → Type 0) (e : Entry K) (h : List (Entry K)) → P e → Each P h → Each P (insert e h)
+  pub each_insert : (P : Entry K → Type 0) (e : Entry K) (h : List (Entry K)) → P e → AllByRecursion P h → AllByRecursion P (insert e h)
   unfolding insert
   each_insert P e [] p q = (p, tt)
-  each_insert P e (x ∷ h) p q = go (leb x.point e.point) (each_insert P e h p q.1)
-    where
-      go : (b : Bool) → Each P (insert e h) → Each P (cond b (x ∷ insert e h) (e ∷ x ∷ h))
-      go true w = (q.0, w)
-      go false w = (p, q)
+  each_insert P e (x ∷ h) p q =
+      cond_both (leb x.point e.point) (x ∷ insert e h) (e ∷ x ∷ h) (AllByRecursion P) (λ _. (q.0, each_insert P e h p q.1)) (λ _. (p, q))
 
-  pub each_map : (P Q : Entry K → Type 0) → ((e : Entry K) → P e → Q e) → (h : List (Entry K)) → Each P h → Each Q h
-  each_map P Q f [] q = tt
-  each_map P Q f (x ∷ h) q = (f x q.0, each_map P Q f h q.1)
+  pub each_map : (P Q : Entry K → Type 0) → ((e : Entry K) → P e → Q e) → (h : List (Entry K)) → AllByRecursion P h → AllByRecursion Q h
+  each_map P Q f h q = recursion_from_All Q h (All-weaker P Q f h (All-from_recursion P h q))
 
   pub replayed_same : (i : ℕ) (G H : Graph K) (h : List (Entry K)) → Same G H → Same (replayed i G h) (replayed i H h)
   replayed_same i G H [] s = s
@@ -76,20 +74,20 @@ module _ {K : Type 0} where
   pub replayed_in : (i : ℕ) (G : Graph K) (x : Entry K) (h : List (Entry K)) → x.point ≤ i → replayed i G (x ∷ h) ≡ replayed i (after G x) h
   replayed_in i G x h le = rw (le-leb x.point i le) refl
 
-  pub replayed_all : (i n : ℕ) → n ≤ i → (G : Graph K) (h : List (Entry K)) → Each (λ e. e.point ≤ n) h → replayed i G h ≡ replayed n G h
+  pub replayed_all : (i n : ℕ) → n ≤ i → (G : Graph K) (h : List (Entry K)) → AllByRecursion (λ e. e.point ≤ n) h → replayed i G h ≡ replayed n G h
   replayed_all i n le G [] q = refl
   replayed_all i n le G (x ∷ h) q =
       let a : x.point ≤ n = q.0 in
       rw (replayed_in i G x h (omega arith), replayed_in n G x h a) (replayed_all i n le (after G x) h q.1)
 
   -- all entries with later points
-  pub replayed_none : (i : ℕ) (G : Graph K) (h : List (Entry K)) → Each (λ e. i < e.point) h → replayed i G h ≡ G
+  pub replayed_none : (i : ℕ) (G : Graph K) (h : List (Entry K)) → AllByRecursion (λ e. i < e.point) h → replayed i G h ≡ G
   replayed_none i G [] q = refl
   replayed_none i G (x ∷ h) q = rw (lt-leb x.point i q.0) (replayed_none i G h q.1)
 
   module _ (r : Run K) where
     -- points do not fall
-    later : (i : ℕ) (G : Graph K) (p : ℕ) (h : List (Entry K)) → i < p → Consistent r G p h → Each (λ e. i < e.point) h
+    later : (i : ℕ) (G : Graph K) (p : ℕ) (h : List (Entry K)) → i < p → Consistent r G p h → AllByRecursion (λ e. i < e.point) h
     later i G p [] lt w = tt
     later i G p (x ∷ h) lt w =
         let le : p ≤ x.point = w.0 in
@@ -104,7 +102,7 @@ module _ {K : Type 0} where
       consistent_same (after G x) (after H x) x.point h (after_same G H s x) w.3,
     )
 
-    later_than : (G : Graph K) (p q : ℕ) (h : List (Entry K)) → Each (λ e. q < e.point) h → Consistent r G p h → Consistent r G q h
+    later_than : (G : Graph K) (p q : ℕ) (h : List (Entry K)) → AllByRecursion (λ e. q < e.point) h → Consistent r G p h → Consistent r G q h
     later_than G p q [] l w = tt
     later_than G p q (x ∷ h) l w = let lt : q < x.point = l.0 in (omega arith, w.1, λ d. ((w.2 d).0, lt), w.3)
 
@@ -121,9 +119,9 @@ module _ {K : Type 0} where
       past G x h le s = rw (le-leb x.point e.point le) at s
 
       here : (G : Graph K) (p : ℕ) (x : Entry K) (h : List (Entry K)) → e.point < x.point → Same (replayed e.point G (x ∷ h)) g → Consistent r G p (x ∷ h) →
-          Same G g × Each (λ y. e.point < y.point) (x ∷ h)
+          Same G g × AllByRecursion (λ y. e.point < y.point) (x ∷ h)
       here G p x h lt s w =
-          let l : Each (λ y. e.point < y.point) (x ∷ h) = (lt, later e.point (after G x) x.point h lt w.3) in
+          let l : AllByRecursion (λ y. e.point < y.point) (x ∷ h) = (lt, later e.point (after G x) x.point h lt w.3) in
           (rw (replayed_none e.point G (x ∷ h) l) at s, l)
 
       pub consistent_still : (h : List (Entry K)) (G : Graph K) (p : ℕ) → p ≤ e.point → Same (replayed e.point G h) g → Consistent r G p h → Consistent r G p (insert e h)
@@ -166,14 +164,14 @@ module _ {K : Type 0} where
       end : (x : Entry K) (h : List (Entry K)) → x.point ≤ n → insert e (x ∷ h) ≡ x ∷ insert e h
       end x h le = insert_past e x h (omega arith)
 
-      pub consistent_end : (h : List (Entry K)) (G : Graph K) (p : ℕ) → p ≤ n → Each (λ x. x.point ≤ n) h → Consistent r G p h →
+      pub consistent_end : (h : List (Entry K)) (G : Graph K) (p : ℕ) → p ≤ n → AllByRecursion (λ x. x.point ≤ n) h → Consistent r G p h →
           Right (replayed n G h) (r.free e.point) e.op.request e.answer → Steps r e.op e.point → Consistent r G p (insert e h)
       unfolding insert
       consistent_end [] G p le q w right step = (omega arith, right, λ d. (step, omega arith), tt)
       consistent_end (x ∷ h) G p le q w right step =
           rw (end x h q.0) (w.0, w.1, w.2, consistent_end h (after G x) x.point q.0 q.1 w.3 (rw (le-leb x.point n q.0) at right) step)
 
-      pub replayed_end : (h : List (Entry K)) (G : Graph K) → Each (λ x. x.point ≤ n) h → replayed e.point G (insert e h) ≡ after (replayed n G h) e
+      pub replayed_end : (h : List (Entry K)) (G : Graph K) → AllByRecursion (λ x. x.point ≤ n) h → replayed e.point G (insert e h) ≡ after (replayed n G h) e
       unfolding insert
       replayed_end [] G q = rw (le-leb e.point e.point (omega arith)) refl
       replayed_end (x ∷ h) G q =

@@ -1,62 +1,29 @@
 -- The history of the worked schedule, by computation.
-use Rattle.std.proofs.Common.{◌≡◌, ℕ, ◌⊎◌, Some, None, sym, refl, ap, ◌∙◌, inl, inr, arith}
+use Rattle.std.proofs.Common.{◌≡◌, ℕ, ◌<◌, ◌≤◌, ◌⊎◌, Some, None, sym, refl, ap, ◌∙◌, inl, inr, arith}
 use Rattle.std.specs.Ordering.{nat_cmp}
+use Rattle.std.proofs.lemmas.Option.{same_Some}
 use Rattle.nodes.specs.declared.controller.JobRef.{JobRef}
 use Rattle.rules.specs.Graph.{key_at}
 use Rattle.rules.specs.Machine.{machine}
 use Rattle.rules.specs.Worked.{fresh8}
-use Rattle.law.specs.History.{Graph, Same, empty, replayed, Consistent, Behind}
-use Rattle.law.specs.History.{Leads.last}
+use Rattle.law.specs.History.{Same, empty, Entry, latest, replayed, Consistent, Behind}
+use Rattle.law.specs.History.{Event.started, Event.finished, Leads.last}
 use Rattle.law.specs.Readings.{JobIn, graph_of, memory_at}
 use Rattle.law.specs.Schedule.{two_adding, schedule_run, explained, add5, add7, wait57, wait75, EndsAt, ScheduleExplained}
+use Rattle.law.proofs.Graphs.{same_refl}
 
-add5_ends : EndsAt add5 6
-unfolding machine
-add5_ends = record {
-  began = record { first = omega arith; by_then = omega arith; is = refl };
-  ends = record { runs = refl; is = refl };
-  hands = refl;
-  from = omega arith;
-  to = omega arith;
+-- an entry of the run, whose numbers rise from its start to its end
+ended : (e : Entry ℕ) (j : ℕ) → 0 < e.op.start → e.op.start ≤ e.point → e.point ≤ j → schedule_run.event e.op.start ≡ started e.op.by e.op.request →
+    latest schedule_run e.op.by j ≡ Some e.op → schedule_run.event j ≡ finished e.op.by → schedule_run.handing j e.op.by ≡ Some e.answer → EndsAt e j
+ended e j first from to begins runs finishes hands = record {
+  began = record { first = first; by_then = omega arith; is = begins };
+  ends = record { runs = runs; is = finishes };
+  hands = hands;
+  from = from;
+  to = to;
 }
-
-add7_ends : EndsAt add7 14
-unfolding machine
-add7_ends = record {
-  began = record { first = omega arith; by_then = omega arith; is = refl };
-  ends = record { runs = refl; is = refl };
-  hands = refl;
-  from = omega arith;
-  to = omega arith;
-}
-
-wait57_ends : EndsAt wait57 40
-unfolding machine
-wait57_ends = record {
-  began = record { first = omega arith; by_then = omega arith; is = refl };
-  ends = record { runs = refl; is = refl };
-  hands = refl;
-  from = omega arith;
-  to = omega arith;
-}
-
-wait75_ends : EndsAt wait75 41
-unfolding machine
-wait75_ends = record {
-  began = record { first = omega arith; by_then = omega arith; is = refl };
-  ends = record { runs = refl; is = refl };
-  hands = refl;
-  from = omega arith;
-  to = omega arith;
-}
-
-some_same : {x y : ℕ} → Some x ≡ Some y → x ≡ y
-some_same e = cc
 
 -- a circle changes nothing
-same_graph : (G : Graph ℕ) → (Same G G → ⊥) → {A : Type 0} → A
-same_graph G f = absurd (f (record { job = λ k. (λ x. x, λ x. x); wait = λ a b. (λ x. x, λ x. x) }))
-
 right : Consistent schedule_run empty 0 explained
 unfolding machine
 right = (
@@ -70,8 +37,8 @@ right = (
     (
       omega arith,
       (inl (inr refl), inr refl, λ w. w),
-      λ f. same_graph _ f,
-      (omega arith, (inr refl, inl (inr refl), λ w. w), λ f. same_graph _ f, tt),
+      λ f. absurd (f (same_refl _)),
+      (omega arith, (inr refl, inl (inr refl), λ w. w), λ f. absurd (f (same_refl _)), tt),
     ),
   ),
 )
@@ -86,8 +53,8 @@ last_graph = record { job = λ k. (to k, from k); wait = λ a b. (λ w. absurd w
     to k (inr e) = (_, inr (inl refl), ap Some (sym e))
 
     from : (k : ℕ) → JobIn (memory_at nat_cmp fresh8 two_adding 43).nodes k → (⊥ ⊎ (k ≡ 5)) ⊎ (k ≡ 7)
-    from k (j, inl p, e) = let q : Some 5 ≡ Some k = sym (ap (λ (x : JobRef). key_at (memory_at nat_cmp fresh8 two_adding 43).nodes x.node) p) ∙ e in inl (inr (sym (some_same q)))
-    from k (j, inr (inl p), e) = let q : Some 7 ≡ Some k = sym (ap (λ (x : JobRef). key_at (memory_at nat_cmp fresh8 two_adding 43).nodes x.node) p) ∙ e in inr (sym (some_same q))
+    from k (j, inl p, e) = inl (inr (sym (same_Some 5 k (sym (ap (λ (x : JobRef). key_at (memory_at nat_cmp fresh8 two_adding 43).nodes x.node) p) ∙ e))))
+    from k (j, inr (inl p), e) = inr (sym (same_Some 7 k (sym (ap (λ (x : JobRef). key_at (memory_at nat_cmp fresh8 two_adding 43).nodes x.node) p) ∙ e)))
     from k (j, inr (inr x), e) = absurd x
 
 -- the two jobs
@@ -126,12 +93,13 @@ row75 = record {
 }
 
 pub schedule_explained : ScheduleExplained
+unfolding machine
 schedule_explained = record {
   entries_are_right = right;
-  add5_ends = add5_ends;
-  add7_ends = add7_ends;
-  wait57_ends = wait57_ends;
-  wait75_ends = wait75_ends;
+  add5_ends = ended add5 6 (omega arith) (omega arith) (omega arith) refl refl refl refl;
+  add7_ends = ended add7 14 (omega arith) (omega arith) (omega arith) refl refl refl refl;
+  wait57_ends = ended wait57 40 (omega arith) (omega arith) (omega arith) refl refl refl refl;
+  wait75_ends = ended wait75 41 (omega arith) (omega arith) (omega arith) refl refl refl refl;
   row_behind_wait57 = row57;
   row_behind_wait75 = row75;
   graph_in_the_end = last_graph;

@@ -18,6 +18,7 @@
 --     Seen, Behind             a wait seen in some time; a row of waits seen that leads from v to u
 --     Linearizes n             there is a history of the first n calls, and a row behind each circle
 use Rattle.std.specs.Prelude.{◌≡◌, ℕ, zero, suc, ◌<◌, ◌≤◌, cond, ◌⊎◌, ◌↔◌, List, [], ◌∷◌, Some, None, Option, ◌==◌, ◌≢◌, nat_le}
+use Rattle.std.specs.List.{AllByRecursion}
 use Rattle.nodes.specs.declared.controller.Operation.{Operation}
 use Rattle.nodes.specs.declared.controller.Operation.TheVariants.{AddJob, RemoveJob, HasJob, AddWait, RemoveWait, HasWait}
 use Rattle.nodes.specs.declared.controller.JobRef.{JobRef}
@@ -148,10 +149,6 @@ module _ {K : Type 0} where
   entries_of s [] = []
   entries_of s (e ∷ h) = cond (e.op.start == s) (e ∷ entries_of s h) (entries_of s h)
 
-  abbrev pub Each : (Entry K → Type 0) → List (Entry K) → Type 0
-  Each P [] = Unit {0}
-  Each P (e ∷ h) = P e × Each P h
-
 module _ {K : Type 0} (r : Run K) where
   -- the operation last started at controller c, by call i
   abbrev pub latest : ℕ → ℕ → Option (Op K)
@@ -206,7 +203,7 @@ module _ {K : Type 0} (r : Run K) where
     pub consistent : Consistent empty 0 h
     pub ended : (o : Op K) (j : ℕ) → j ≤ n → Ends o j → (a : Answer) × (r.handing j o.by ≡ Some a) × One h o a j
     pub running : (o : Op K) → Running n o → (Changed n o × One h o Yes n) ⊎ ((Changed n o → ⊥) × (entries_of o.start h ≡ []))
-    pub only : Each (λ e. Began n e.op) h
+    pub only : AllByRecursion (λ e. Began n e.op) h
     pub graphs : (i : ℕ) → i ≤ n → Same (replayed i empty h) (r.graph i)
     pub handed : (o : Op K) (a : Answer) (i : ℕ) → i ≤ n → HandsOver o a i → One h o a i
 

@@ -5,7 +5,6 @@ use Rattle.std.specs.List.{AllByRecursion}
 use Rattle.std.proofs.lemmas.Bool.{cases_eq}
 use Rattle.theory.specs.Chains.{Linked, AllKept, Closed, OnlyAt, Links, Unlinks}
 use Rattle.theory.specs.Lists.{In, Distinct, spliced, without}
-use Rattle.theory.proofs.Options.{not_both, one_value}
 use Rattle.theory.proofs.Lists.{all_in, all_from, spliced_here, spliced_past, without_cons_same, without_cons_other, without_none}
 
 -- ---- a unique list, without doubles
@@ -13,10 +12,10 @@ use Rattle.theory.proofs.Lists.{all_in, all_from, spliced_here, spliced_past, wi
 module _ (next : ℕ → Option ℕ) where
   pub linked_unique : (o : Option ℕ) (l m : List ℕ) → Linked next o l → Linked next o m → l ≡ m
   linked_unique o [] [] h k = refl
-  linked_unique o [] (j ∷ m) h k = absurd (not_both h k.0)
-  linked_unique o (i ∷ l) [] h k = absurd (not_both k h.0)
+  linked_unique o [] (j ∷ m) h k = cc
+  linked_unique o (i ∷ l) [] h k = cc
   linked_unique o (i ∷ l) (j ∷ m) h k =
-      let e : i ≡ j = one_value h.0 k.0 in
+      let e : i ≡ j = cc in
       let r : l ≡ m = linked_unique (next i) l m h.1 (rw (sym e) at k.1) in
       cc
 
@@ -48,8 +47,8 @@ module _ (next : ℕ → Option ℕ) where
   linked_distinct o (i ∷ l) h = (all_from (λ j. i ≡ j → ⊥) l (λ j m e. linked_once i l h.1 (rw e m)), linked_distinct (next i) l h.1)
 
   pub linked_first : (o : Option ℕ) (l : List ℕ) (y : ℕ) → Linked next o l → o ≡ Some y → In y l
-  linked_first o [] y h e = absurd (not_both h e)
-  linked_first o (j ∷ l) y h e = inl (one_value e h.0)
+  linked_first o [] y h e = cc
+  linked_first o (j ∷ l) y h e = inl (cc)
 
   -- ---- the chain l behind s
 
@@ -98,19 +97,18 @@ module _ (kept : ℕ → Bool) (next next' : ℕ → Option ℕ) where
     pub linked_link : (s : ℕ) (l : List ℕ) → AllKept kept (s ∷ l) → In p (s ∷ l) → Linked next (next s) l → Linked next' (next' s) (spliced s p x l)
     linked_link s l k (inl e) h = link_here s l (sym e) k.1 h
     linked_link s [] k (inr m) h = absurd m
-    linked_link s (i ∷ l) k (inr m) h = go (cases_eq s p) (linked_link i l k.1 m h.1)
-      where
-        go : (s ≡ p) ⊎ (s ≡ p → ⊥) → Linked next' (next' i) (spliced i p x l) → Linked next' (next' s) (spliced s p x (i ∷ l))
-        go (inl e) ih = link_here s (i ∷ l) e k.1 h
-        go (inr ne) ih = rw (spliced_past s p x i l ne) (w.else s k.0 ne ∙ h.0, ih)
+    linked_link s (i ∷ l) k (inr m) h = elim (cases_eq s p) [
+      | inl e ↦ link_here s (i ∷ l) e k.1 h
+      | inr ne ↦ rw (spliced_past s p x i l ne) (w.else s k.0 ne ∙ h.0, linked_link i l k.1 m h.1)
+    ]
 
   -- ---- unlinking
 
   module _ (p y : ℕ) (w : Unlinks kept next next' p y) where
     unlink_here : (s : ℕ) (l : List ℕ) → s ≡ p → AllKept kept l → Linked next (next s) l → Linked next' (next' s) (without y l)
-    unlink_here s [] e k h = absurd (not_both h (ap next e ∙ w.was))
+    unlink_here s [] e k h = cc (ap next e, w.was)
     unlink_here s (j ∷ l) e k h =
-        let q : j ≡ y = one_value h.0 (ap next e ∙ w.was) in
+        let q : j ≡ y = cc in
         let cut : without y (j ∷ l) ≡ l = without_cons_same y j l q ∙ without_none y l (λ m. linked_once next j l h.1 (rw q m)) in
         let once : In p l → ⊥ = λ m. linked_once next p (j ∷ l) (rw e at h) (inr m) in
         rw (cut, ap next' e ∙ (w.at ∙ ap next (sym q))) (linked_aside p w.else (next j) l k.1 once h.1)
@@ -119,15 +117,14 @@ module _ (kept : ℕ → Bool) (next next' : ℕ → Option ℕ) where
     pub linked_unlink : (s : ℕ) (l : List ℕ) → AllKept kept (s ∷ l) → In p (s ∷ l) → Linked next (next s) l → Linked next' (next' s) (without y l)
     linked_unlink s l k (inl e) h = unlink_here s l (sym e) k.1 h
     linked_unlink s [] k (inr m) h = absurd m
-    linked_unlink s (i ∷ l) k (inr m) h = go (cases_eq s p) (linked_unlink i l k.1 m h.1)
+    linked_unlink s (i ∷ l) k (inr m) h = elim (cases_eq s p) [
+      | inl e ↦ unlink_here s (i ∷ l) e k.1 h
+      | inr ne ↦ rw (without_cons_other y i l past) (w.else s k.0 ne ∙ h.0, linked_unlink i l k.1 m h.1)
+    ]
       where
         -- y stands behind i
         past : i ≡ y → ⊥
         past e = linked_once next i l h.1 (rw e (linked_next next i l h.1 p y w.was m))
-
-        go : (s ≡ p) ⊎ (s ≡ p → ⊥) → Linked next' (next' i) (without y l) → Linked next' (next' s) (without y (i ∷ l))
-        go (inl e) ih = unlink_here s (i ∷ l) e k.1 h
-        go (inr ne) ih = rw (without_cons_other y i l past) (w.else s k.0 ne ∙ h.0, ih)
 
   -- ---- closed under next, before and after a write
 
@@ -138,14 +135,13 @@ module _ (kept : ℕ → Bool) (next next' : ℕ → Option ℕ) where
     closed_link p x w kp kept' kx old new i y k e = go (cases_eq i p) (new i k)
       where
         go : (i ≡ p) ⊎ (i ≡ p → ⊥) → (kept i ≡ true) ⊎ ((i ≡ x) ⊎ (next' i ≡ None)) → kept' y ≡ true
-        go (inl q) o = rw (one_value (ap next' (sym q) ∙ e) w.at) kx
+        go (inl q) o = cc
         go (inr ne) (inl o) = old y (closed i y o (sym (w.else i o ne) ∙ e))
-        go (inr ne) (inr (inl q)) = old y (closed p y kp (sym w.new ∙ (ap next' (sym q) ∙ e)))
-        go (inr ne) (inr (inr z)) = absurd (not_both z e)
+        go (inr ne) (inr (inl q)) = old y (closed p y kp (cc))
+        go (inr ne) (inr (inr z)) = cc
 
     pub closed_unlink : (p y : ℕ) → Unlinks kept next next' p y → kept p ≡ true → Closed kept next'
-    closed_unlink p y w kp i z k e = go (cases_eq i p)
-      where
-        go : (i ≡ p) ⊎ (i ≡ p → ⊥) → kept z ≡ true
-        go (inl q) = closed y z (closed p y kp w.was) (sym w.at ∙ (ap next' (sym q) ∙ e))
-        go (inr ne) = closed i z k (sym (w.else i k ne) ∙ e)
+    closed_unlink p y w kp i z k e = elim (cases_eq i p) [
+      | inl q ↦ closed y z (closed p y kp w.was) (cc)
+      | inr ne ↦ closed i z k (sym (w.else i k ne) ∙ e)
+    ]

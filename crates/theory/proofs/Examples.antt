@@ -1,5 +1,5 @@
 -- The definitions at work on small lists and chains.
-use Rattle.std.proofs.Common.{◌≡◌, ℕ, zero, suc, ◌<◌, ltb, Some, sym, refl, ap, ◌∙◌, subst, inl, inr, arith}
+use Rattle.std.proofs.Common.{◌≡◌, ℕ, zero, suc, ltb, Some, refl, inl, inr, arith}
 use Rattle.std.proofs.lemmas.Bool.{ltb-true}
 use Rattle.std.specs.declared.cmp.Ordering.TheVariants.{Less}
 use Rattle.std.specs.Ordering.{nat_cmp}
@@ -9,8 +9,6 @@ use Rattle.theory.specs.Reach.{Reach.here, Reach.onward}
 use Rattle.theory.specs.Theory.{three, four, three_again, Examples}
 use Rattle.theory.specs.Ways.{Leads}
 use Rattle.theory.specs.Ways.{Leads.last, Leads.more}
-use Rattle.theory.proofs.Options.{none_not_some, some_same}
-use Rattle.theory.proofs.Orders.{before_not_same}
 use Rattle.theory.proofs.Reach.{ahead_none}
 
 -- the writes change what follows 1 alone
@@ -18,7 +16,7 @@ linked_else : OnlyAt (λ i. ltb i 3) three four 1
 linked_else zero k ne = refl
 linked_else (suc zero) k ne = absurd (ne refl)
 linked_else (suc (suc zero)) k ne = refl
-linked_else (suc (suc (suc n))) k ne = absurd (let lt : suc (suc (suc n)) < 3 = ltb-true (suc (suc (suc n))) 3 k in omega arith)
+linked_else (suc (suc (suc n))) k ne = absurd (omega (arith, ltb-true (suc (suc (suc n))) 3 k))
 
 unlinked_else : OnlyAt (λ i. ltb i 4) four three_again 1
 unlinked_else zero k ne = refl
@@ -28,12 +26,12 @@ unlinked_else (suc (suc (suc zero))) k ne = refl
 unlinked_else (suc (suc (suc (suc n)))) k ne = refl
 
 stops_at_two : (y : ℕ) → Some 2 ≡ Some y → nat_cmp y 2 ≡ Less → ⊥
-stops_at_two y e b = before_not_same (subst (λ k. nat_cmp k 2 ≡ Less) (sym (some_same e)) b) refl
+stops_at_two y e b = cc
 
 -- nothing follows 2
 no_way_from_two : (a b : ℕ) → a ≡ 2 → Leads (λ x y. three x ≡ Some y) a b → ⊥
-no_way_from_two a b q (last e) = none_not_some (sym (ap three q) ∙ e)
-no_way_from_two a b q (more e l) = none_not_some (sym (ap three q) ∙ e)
+no_way_from_two a b q (last e) = cc
+no_way_from_two a b q (more e l) = cc
 
 pub examples : Examples
 unfolding field

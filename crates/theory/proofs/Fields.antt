@@ -1,34 +1,27 @@
 -- Lists as memory: one field of a list's elements, and its value after a write and after any list of writes: at the written places, where
 -- writes leave it as it was, and elsewhere.
-use Rattle.std.proofs.Common.{◌≡◌, ℕ, zero, suc, ◌<◌, ◌≤◌, cond, eqb, ◌⊎◌, List, [], ◌∷◌, length, set, Some, sym, refl, ap, ◌∙◌, subst, inl, inr, arith, length-set}
+use Rattle.std.proofs.Common.{◌≡◌, ℕ, ◌<◌, ◌≤◌, cond, eqb, List, [], ◌∷◌, length, set, Some, sym, refl, ap, ◌∙◌, subst, inl, inr, arith, length-set}
 use Rattle.std.specs.List.{slice_get, AllByRecursion}
-use Rattle.std.proofs.lemmas.Option.{slice_get_past}
+use Rattle.std.proofs.lemmas.List.{set_past}
+use Rattle.std.proofs.lemmas.Option.{slice_get_cases, slice_get_past, gets}
+use Rattle.std.proofs.lemmas.Grind.{common_steps}
 use Rattle.std.proofs.lemmas.Bool.{cases_eq, cases_lt, eq-eqb, ne_eqb}
 use Rattle.theory.specs.Fields.{field, of_element, writes, places, Rewrites}
 use Rattle.theory.specs.Lists.{In, Distinct}
 use Rattle.theory.proofs.Lists.{all_in, all_from, in_map}
-use Rattle.theory.proofs.Options.{none_not_some}
 
 module _ {A : Type 0} where
   -- ---- elements
 
   pub nth_set_same : (l : List A) (i : ℕ) (x y : A) → slice_get l i ≡ Some y → slice_get (set l i x) i ≡ Some x
-  nth_set_same [] i x y h = absurd (none_not_some h)
-  nth_set_same (a ∷ l) zero x y h = refl
-  nth_set_same (a ∷ l) (suc i) x y h = nth_set_same l i x y h
+  nth_set_same l i x y h = grind (arith, common_steps, gets)
 
   pub nth_set_other : (l : List A) (i j : ℕ) (x : A) → (j ≡ i → ⊥) → slice_get (set l i x) j ≡ slice_get l j
-  nth_set_other [] i j x h = refl
-  nth_set_other (a ∷ l) zero zero x h = absurd (h refl)
-  nth_set_other (a ∷ l) zero (suc j) x h = refl
-  nth_set_other (a ∷ l) (suc i) zero x h = refl
-  nth_set_other (a ∷ l) (suc i) (suc j) x h = nth_set_other l i j x (λ e. h (ap suc e))
+  nth_set_other l i j x h = grind (arith, common_steps, gets)
 
   -- a number below the length has an element
   pub nth_found : (l : List A) (i : ℕ) → i < length l → (x : A) × (slice_get l i ≡ Some x)
-  nth_found [] i lt = absurd (omega arith)
-  nth_found (a ∷ l) zero lt = (a, refl)
-  nth_found (a ∷ l) (suc i) lt = nth_found l i (omega arith)
+  nth_found l i lt = elim (slice_get_cases l i).1 [ inl r ↦ (r.0, r.2) | inr r ↦ absurd (omega (arith, r.0)) ]
 
   -- ---- a field
 
@@ -43,16 +36,12 @@ module _ {A : Type 0} where
 
     -- where a field is not the default, there is an element
     pub field_found : (l : List A) (i : ℕ) → (field f d l i ≡ d → ⊥) → (x : A) × (slice_get l i ≡ Some x) × (field f d l i ≡ f x)
-    field_found l i other = go (cases_lt i (length l))
-      where
-        go : (i < length l) ⊎ (length l ≤ i) → (x : A) × (slice_get l i ≡ Some x) × (field f d l i ≡ f x)
-        go (inl lt) = let r = nth_found l i lt in (r.0, r.1, field_is l i r.0 r.1)
-        go (inr le) = absurd (other (field_past l i le))
+    field_found l i other = elim (slice_get_cases l i).1 [ inl r ↦ (r.0, r.2, field_is l i r.0 r.2) | inr r ↦ absurd (other (field_past l i r.0)) ]
 
     -- ---- one write
 
     pub field_set_same : (l : List A) (i : ℕ) (x : A) → i < length l → field f d (set l i x) i ≡ f x
-    field_set_same l i x lt = let r = nth_found l i lt in field_is (set l i x) i x (nth_set_same l i x r.0 r.1)
+    field_set_same l i x lt = field_is (set l i x) i x (grind (arith, common_steps, gets))
 
     pub field_set_other : (l : List A) (i j : ℕ) (x : A) → (j ≡ i → ⊥) → field f d (set l i x) j ≡ field f d l j
     unfolding field
@@ -66,13 +55,10 @@ module _ {A : Type 0} where
 
     -- a write elsewhere, or of the value that the field has there
     field_set_equal : (l : List A) (i j : ℕ) (x : A) → (j ≡ i → f x ≡ field f d l j) → field f d (set l i x) j ≡ field f d l j
-    field_set_equal l i j x same = elim (cases_eq j i) [ inl e ↦ here e (cases_lt i (length l)) | inr ne ↦ field_set_other l i j x ne ]
-      where
-        here : j ≡ i → (i < length l) ⊎ (length l ≤ i) → field f d (set l i x) j ≡ field f d l j
-        here e (inl lt) = ap (field f d (set l i x)) e ∙ (field_set_same l i x lt ∙ same e)
-        here e (inr le) =
-            let past : length (set l i x) ≤ j = (let n = length-set l i x in omega arith) in
-            field_past (set l i x) j past ∙ sym (field_past l j (omega arith))
+    field_set_equal l i j x same = elim (cases_eq j i) [
+      | inl e ↦ elim (cases_lt i (length l)) [ inl lt ↦ cc (field_set_same l i x lt, same e) | inr le ↦ rw (set_past l i x le) ]
+      | inr ne ↦ field_set_other l i j x ne
+    ]
 
     -- ---- writes, one after the other
 

@@ -1,5 +1,5 @@
 -- Lists of lists, joined: their members, and that no element is twice; when two sums are the same.
-use Rattle.std.proofs.Common.{◌≡◌, ℕ, ◌⊎◌, List, [], ◌∷◌, sum_by, sym, refl, inl, inr, arith}
+use Rattle.std.proofs.Common.{◌≡◌, ℕ, List, [], ◌∷◌, sum_by, sym, refl, inl, inr, arith}
 use Rattle.std.specs.List.{flat_map}
 use Rattle.std.proofs.lemmas.List.Sums.{sum_by-cons}
 use Rattle.theory.specs.Lists.{In, Distinct}
@@ -13,11 +13,10 @@ module _ {A B : Type 0} (f : A → List B) where
 
   pub in_joined_cases : (y : B) (l : List A) → In y (flat_map f l) → (x : A) × In x l × In y (f x)
   in_joined_cases y [] h = absurd h
-  in_joined_cases y (z ∷ l) h = go (in_append_cases y (f z) (flat_map f l) h) (in_joined_cases y l)
-    where
-      go : In y (f z) ⊎ In y (flat_map f l) → (In y (flat_map f l) → (x : A) × In x l × In y (f x)) → (x : A) × In x (z ∷ l) × In y (f x)
-      go (inl k) ih = (z, inl refl, k)
-      go (inr k) ih = let r = ih k in (r.0, inr r.1, r.2)
+  in_joined_cases y (z ∷ l) h = elim (in_append_cases y (f z) (flat_map f l) h) [
+    | inl k ↦ (z, inl refl, k)
+    | inr k ↦ let r = in_joined_cases y l k in (r.0, inr r.1, r.2)
+  ]
 
   -- lists without doubles that share no element, joined
   pub distinct_joined : (l : List A) → Distinct l → ((x : A) → In x l → Distinct (f x)) →

@@ -1,6 +1,7 @@
 -- Keys along chains: a list in which each number stands before the one that follows it rises and has no number twice; where a key
 -- stands in a rising list is where a traversal arrives; the greatest key of a list.
-use Rattle.std.proofs.Common.{◌≡◌, ℕ, true, ◌⊎◌, List, [], ◌∷◌, map, Some, Option, sym, refl, ap, ◌∙◌, subst, inl, inr}
+use Rattle.std.proofs.Common.{◌≡◌, ℕ, true, List, [], ◌∷◌, map, Some, Option, sym, refl, ap, ◌∙◌, subst, inl, inr}
+use Rattle.std.proofs.Math.Logic.{⊎_map}
 use Rattle.std.specs.declared.cmp.Ordering.{Ordering}
 use Rattle.std.specs.declared.cmp.Ordering.TheVariants.{Less}
 use Rattle.order.specs.Lists.{rises_after, rising}
@@ -88,22 +89,16 @@ module _ {K : Type 0} (order : K → K → Ordering) (laws : OrderLaws order) wh
     module _ (s : ℕ) (l : List ℕ) (p : ℕ) (q : Option ℕ) (h : Linked next (next s) l) (a : Arrives order key next s l w p q) where
       -- where the key w stands in the list is where the traversal arrives
       pub arrives_at : Rises order key l → (i : ℕ) → In i l → key i ≡ w → q ≡ Some i
-      arrives_at r i m e = sym a.follows ∙ go a.stands
-        where
-          stops : Stops (next p)
-          stops y n = a.stops y (sym a.follows ∙ n)
-
-          go : (p ≡ s) ⊎ (In p l × (order (key p) w ≡ Less)) → next p ≡ Some i
-          go (inl u) = stands_first (next p) l (rw u h) r stops i m e
-          go (inr u) = stands_next p u.1 stops (next s) l h r u.0 i m e
+      arrives_at r i m e =
+          let stops : Stops (next p) = λ y n. a.stops y (sym a.follows ∙ n) in
+          sym a.follows ∙ elim a.stands [
+            | inl u ↦ stands_first (next p) l (rw u h) r stops i m e
+            | inr u ↦ stands_next p u.1 stops (next s) l h r u.0 i m e
+          ]
 
       -- what it arrives at is in the list
       pub arrives_in : (y : ℕ) → q ≡ Some y → In y l
-      arrives_in y e = linked_next next s l h p y (a.follows ∙ e) (place a.stands)
-        where
-          place : (p ≡ s) ⊎ (In p l × (order (key p) w ≡ Less)) → In p (s ∷ l)
-          place (inl u) = inl u
-          place (inr u) = inr u.0
+      arrives_in y e = linked_next next s l h p y (a.follows ∙ e) (⊎_map (λ u. u) (λ u. u.0) a.stands)
 
   -- ---- the greatest key
 
@@ -117,8 +112,9 @@ module _ {K : Type 0} (order : K → K → Ordering) (laws : OrderLaws order) wh
 
     pub greatest : (x : A) (l : List A) → (g : A) × Greatest order key g (x ∷ l)
     greatest x [] = (x, record { member = inl refl; none_after = (not_before_itself order laws (key x), tt) })
-    greatest x (y ∷ l) = go (greatest y l) (before_or_not (order (key x) (key (greatest y l).0)))
-      where
-        go : (r : (g : A) × Greatest order key g (y ∷ l)) → KeyBefore order key x r.0 ⊎ (KeyBefore order key x r.0 → ⊥) → (g : A) × Greatest order key g (x ∷ y ∷ l)
-        go r (inl b) = (r.0, record { member = inr r.1.member; none_after = (λ c. not_both_before order laws (key x) (key r.0) b c, r.1.none_after) })
-        go r (inr n) = (x, first_greatest x r.0 (y ∷ l) r.1 n)
+    greatest x (y ∷ l) =
+        let r = greatest y l in
+        elim (before_or_not (order (key x) (key r.0))) [
+          | inl b ↦ (r.0, record { member = inr r.1.member; none_after = (not_both_before order laws (key x) (key r.0) b, r.1.none_after) })
+          | inr n ↦ (x, first_greatest x r.0 (y ∷ l) r.1 n)
+        ]

@@ -5,7 +5,6 @@ pub mod Fields
 pub mod Joined
 pub mod Keys
 pub mod Lists
-pub mod Options
 pub mod Orders
 pub mod Reach
 pub mod Theory

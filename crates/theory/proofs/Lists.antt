@@ -1,6 +1,7 @@
 -- Members of lists, lists without doubles, and a number put into a list or taken out.
 use Rattle.std.proofs.Common.{◌≡◌, ℕ, suc, ◌⊎◌, List, [], ◌∷◌, ◌++◌, map, length, sym, refl, ap, ◌∙◌, inl, inr}
 use Rattle.std.specs.List.{AllByRecursion}
+use Rattle.std.proofs.Math.Logic.{⊎_map}
 use Rattle.std.proofs.lemmas.Bool.{cases_eq, eq-eqb, ne_eqb}
 use Rattle.theory.specs.Lists.{In, Pairwise, Distinct, spliced, without}
 
@@ -26,11 +27,7 @@ module _ {A : Type 0} where
   pub in_append_cases : (x : A) (l m : List A) → In x (l ++ m) → In x l ⊎ In x m
   in_append_cases x [] m h = inr h
   in_append_cases x (y ∷ l) m (inl e) = inl (inl e)
-  in_append_cases x (y ∷ l) m (inr h) = go (in_append_cases x l m h)
-    where
-      go : In x l ⊎ In x m → In x (y ∷ l) ⊎ In x m
-      go (inl k) = inl (inr k)
-      go (inr k) = inr k
+  in_append_cases x (y ∷ l) m (inr h) = ⊎_map inr (λ k. k) (in_append_cases x l m h)
 
   pub pairwise_weaker : (R S : A → A → Type 0) → ((x y : A) → R x y → S x y) → (l : List A) → Pairwise R l → Pairwise S l
   pairwise_weaker R S f [] h = tt
@@ -84,33 +81,28 @@ in_spliced_cases i s p x [] h = elim (cases_eq s p) [
   | inl e ↦ let k : In i (x ∷ []) = rw (spliced_here s p x [] e) at h in elim k [ inl q ↦ inl q | inr m ↦ absurd m ]
   | inr ne ↦ absurd (let k : In i [] = rw (spliced_none s p x ne) at h in k)
 ]
-in_spliced_cases i s p x (j ∷ l) h = go (cases_eq s p) (in_spliced_cases i j p x l)
-  where
-    past : (In i (spliced j p x l) → (i ≡ x) ⊎ In i l) → In i (j ∷ spliced j p x l) → (i ≡ x) ⊎ In i (j ∷ l)
-    past ih (inl e) = inr (inl e)
-    past ih (inr m) = elim (ih m) [ inl e ↦ inl e | inr k ↦ inr (inr k) ]
-
-    go : (s ≡ p) ⊎ (s ≡ p → ⊥) → (In i (spliced j p x l) → (i ≡ x) ⊎ In i l) → (i ≡ x) ⊎ In i (j ∷ l)
-    go (inl e) ih = rw (spliced_here s p x (j ∷ l) e) at h
-    go (inr ne) ih = past ih (rw (spliced_past s p x j l ne) at h)
+in_spliced_cases i s p x (j ∷ l) h = elim (cases_eq s p) [
+  | inl e ↦ rw (spliced_here s p x (j ∷ l) e) at h
+  | inr ne ↦ let k : In i (j ∷ spliced j p x l) = rw (spliced_past s p x j l ne) at h in elim k [
+    | inl e ↦ inr (inl e)
+    | inr m ↦ ⊎_map (λ e. e) inr (in_spliced_cases i j p x l m)
+  ]
+]
 
 pub in_spliced_old : (i s p x : ℕ) (l : List ℕ) → In i l → In i (spliced s p x l)
 in_spliced_old i s p x [] m = absurd m
-in_spliced_old i s p x (j ∷ l) m = go (cases_eq s p) m (in_spliced_old i j p x l)
-  where
-    go : (s ≡ p) ⊎ (s ≡ p → ⊥) → In i (j ∷ l) → (In i l → In i (spliced j p x l)) → In i (spliced s p x (j ∷ l))
-    go (inl e) k ih = rw (spliced_here s p x (j ∷ l) e) (inr k)
-    go (inr ne) (inl q) ih = rw (spliced_past s p x j l ne) (inl q)
-    go (inr ne) (inr k) ih = rw (spliced_past s p x j l ne) (inr (ih k))
+in_spliced_old i s p x (j ∷ l) m = elim (cases_eq s p) [
+  | inl e ↦ rw (spliced_here s p x (j ∷ l) e) (inr m)
+  | inr ne ↦ rw (spliced_past s p x j l ne) (⊎_map (λ q. q) (in_spliced_old i j p x l) m)
+]
 
 pub in_spliced_new : (s p x : ℕ) (l : List ℕ) → In p (s ∷ l) → In x (spliced s p x l)
 in_spliced_new s p x l (inl e) = rw (spliced_here s p x l (sym e)) (inl refl)
 in_spliced_new s p x [] (inr m) = absurd m
-in_spliced_new s p x (j ∷ l) (inr m) = go (cases_eq s p) (in_spliced_new j p x l m)
-  where
-    go : (s ≡ p) ⊎ (s ≡ p → ⊥) → In x (spliced j p x l) → In x (spliced s p x (j ∷ l))
-    go (inl e) ih = rw (spliced_here s p x (j ∷ l) e) (inl refl)
-    go (inr ne) ih = rw (spliced_past s p x j l ne) (inr ih)
+in_spliced_new s p x (j ∷ l) (inr m) = elim (cases_eq s p) [
+  | inl e ↦ rw (spliced_here s p x (j ∷ l) e) (inl refl)
+  | inr ne ↦ rw (spliced_past s p x j l ne) (inr (in_spliced_new j p x l m))
+]
 
 -- ---- a number taken out
 
@@ -122,28 +114,21 @@ without_cons_other y i l ne = rw (ne_eqb i y ne)
 
 pub in_without_cases : (i y : ℕ) (l : List ℕ) → In i (without y l) → In i l × (i ≡ y → ⊥)
 in_without_cases i y [] h = absurd h
-in_without_cases i y (j ∷ l) h = go (cases_eq j y) (in_without_cases i y l)
-  where
-    more : In i l × (i ≡ y → ⊥) → In i (j ∷ l) × (i ≡ y → ⊥)
-    more r = (inr r.0, r.1)
-
-    front : (j ≡ y → ⊥) → (In i (without y l) → In i l × (i ≡ y → ⊥)) → In i (j ∷ without y l) → In i (j ∷ l) × (i ≡ y → ⊥)
-    front ne ih (inl e) = (inl e, λ q. ne (sym e ∙ q))
-    front ne ih (inr m) = more (ih m)
-
-    go : (j ≡ y) ⊎ (j ≡ y → ⊥) → (In i (without y l) → In i l × (i ≡ y → ⊥)) → In i (j ∷ l) × (i ≡ y → ⊥)
-    go (inl e) ih = more (ih (rw (eq-eqb j y e) at h))
-    go (inr ne) ih = front ne ih (rw (ne_eqb j y ne) at h)
+in_without_cases i y (j ∷ l) h = elim (cases_eq j y) [
+  | inl e ↦ let r = in_without_cases i y l (rw (without_cons_same y j l e) at h) in (inr r.0, r.1)
+  | inr ne ↦ let k : In i (j ∷ without y l) = rw (without_cons_other y j l ne) at h in elim k [
+    | inl e ↦ (inl e, λ q. ne (sym e ∙ q))
+    | inr m ↦ let r = in_without_cases i y l m in (inr r.0, r.1)
+  ]
+]
 
 pub in_without : (i y : ℕ) (l : List ℕ) → In i l → (i ≡ y → ⊥) → In i (without y l)
 in_without i y [] m ne = absurd m
-in_without i y (j ∷ l) m ne = go (cases_eq j y) m (λ k. in_without i y l k ne)
-  where
-    go : (j ≡ y) ⊎ (j ≡ y → ⊥) → In i (j ∷ l) → (In i l → In i (without y l)) → In i (without y (j ∷ l))
-    go (inl e) (inl q) ih = absurd (ne (q ∙ e))
-    go (inl e) (inr k) ih = rw (eq-eqb j y e) (ih k)
-    go (inr n) (inl q) ih = rw (ne_eqb j y n) (inl q)
-    go (inr n) (inr k) ih = rw (ne_eqb j y n) (inr (ih k))
+in_without i y (j ∷ l) (inl q) ne = rw (without_cons_other y j l (λ e. ne (q ∙ e))) (inl q)
+in_without i y (j ∷ l) (inr k) ne = elim (cases_eq j y) [
+  | inl e ↦ rw (without_cons_same y j l e) (in_without i y l k ne)
+  | inr n ↦ rw (without_cons_other y j l n) (inr (in_without i y l k ne))
+]
 
 pub without_none : (y : ℕ) (l : List ℕ) → (In y l → ⊥) → without y l ≡ l
 without_none y [] out = refl
@@ -151,18 +136,17 @@ without_none y (j ∷ l) out = without_cons_other y j l (λ e. out (inl (sym e))
 
 pub distinct_without : (y : ℕ) (l : List ℕ) → Distinct l → Distinct (without y l)
 distinct_without y [] d = tt
-distinct_without y (j ∷ l) d = go (cases_eq j y) (distinct_without y l d.1)
+distinct_without y (j ∷ l) d = elim (cases_eq j y) [
+  | inl e ↦ rw (without_cons_same y j l e) (distinct_without y l d.1)
+  | inr ne ↦ rw (without_cons_other y j l ne) (all_from (λ i. j ≡ i → ⊥) (without y l) other, distinct_without y l d.1)
+]
   where
     other : (i : ℕ) → In i (without y l) → j ≡ i → ⊥
     other i m = all_in (λ k. j ≡ k → ⊥) i l d.0 (in_without_cases i y l m).0
 
-    go : (j ≡ y) ⊎ (j ≡ y → ⊥) → Distinct (without y l) → Distinct (without y (j ∷ l))
-    go (inl e) ih = rw (eq-eqb j y e) ih
-    go (inr ne) ih = rw (ne_eqb j y ne) (all_from (λ i. j ≡ i → ⊥) (without y l) other, ih)
-
 pub length_without : (y : ℕ) (l : List ℕ) → Distinct l → In y l → length l ≡ suc (length (without y l))
 length_without y [] d m = absurd m
 length_without y (j ∷ l) d (inl e) =
-    ap suc (ap length (sym (without_none y l (λ m. all_in (λ i. j ≡ i → ⊥) y l d.0 m (sym e)))) ∙ sym (ap length (without_cons_same y j l (sym e))))
+    cc (without_none y l (λ m. all_in (λ i. j ≡ i → ⊥) y l d.0 m (sym e)), without_cons_same y j l (sym e))
 length_without y (j ∷ l) d (inr m) =
-    ap suc (length_without y l d.1 m ∙ sym (ap length (without_cons_other y j l (λ e. all_in (λ i. j ≡ i → ⊥) y l d.0 m e))))
+    cc (length_without y l d.1 m, without_cons_other y j l (all_in (λ i. j ≡ i → ⊥) y l d.0 m))

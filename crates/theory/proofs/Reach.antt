@@ -8,7 +8,6 @@ use Rattle.theory.specs.Lists.{In}
 use Rattle.theory.specs.Reach.{Reach, Ahead}
 use Rattle.theory.specs.Reach.{Reach.here, Reach.onward}
 use Rattle.theory.proofs.Chains.{linked_next}
-use Rattle.theory.proofs.Options.{not_both, one_value}
 
 module _ (next : ℕ → Option ℕ) where
   -- ---- itself, or ahead
@@ -22,11 +21,11 @@ module _ (next : ℕ → Option ℕ) where
 
   -- a move along next keeps what is still ahead
   pub ahead_move : (x y f : ℕ) → next x ≡ Some y → Ahead next x f → (y ≡ f) ⊎ Ahead next y f
-  ahead_move x y f e a = reach_cases y f (rw (one_value e a.is) a.reach)
+  ahead_move x y f e a = let same : y ≡ a.first = cc in reach_cases y f (rw same a.reach)
 
   -- nothing is ahead of the last number of a chain
   pub ahead_none : (x f : ℕ) → next x ≡ None → Ahead next x f → ⊥
-  ahead_none x f e a = not_both e a.is
+  ahead_none x f e a = cc
 
   -- ---- along a chain
 
@@ -82,11 +81,10 @@ module _ (kept : ℕ → Bool) (next next' : ℕ → Option ℕ) (closed : Close
   -- x is linked behind p
   module _ (p x : ℕ) (w : Links kept next next' p x) where
     link_step : (f : ℕ) → Steps f
-    link_step f z n k e r = go (cases_eq z p)
-      where
-        go : (z ≡ p) ⊎ (z ≡ p → ⊥) → Ahead next' z f
-        go (inl q) = record { first = x; is = ap next' q ∙ w.at; reach = onward (w.new ∙ (ap next (sym q) ∙ e)) r }
-        go (inr ne) = record { first = n; is = w.else z k ne ∙ e; reach = r }
+    link_step f z n k e r = elim (cases_eq z p) [
+      | inl q ↦ record { first = x; is = cc; reach = onward (cc) r }
+      | inr ne ↦ record { first = n; is = w.else z k ne ∙ e; reach = r }
+    ]
 
     pub reach_link : (z f : ℕ) → kept z ≡ true → Reach next z f → Reach next' z f
     reach_link z f = reach_by_steps f (link_step f) z
@@ -104,12 +102,12 @@ module _ (kept : ℕ → Bool) (next next' : ℕ → Option ℕ) (closed : Close
         past q d m (inl u) = absurd (stays (sym m ∙ u))
         past q d m (inr a) =
             let ky : kept y ≡ true = closed z y k (e ∙ ap Some m) in
-            record { first = a.first; is = ap next' q ∙ (w.at ∙ (sym (w.else y ky d) ∙ (ap next' (sym m) ∙ a.is))); reach = a.reach }
+            record { first = a.first; is = cc (w.else y ky d); reach = a.reach }
 
         go : (z ≡ p) ⊎ (z ≡ p → ⊥) → (y ≡ p) ⊎ (y ≡ p → ⊥) → Ahead next' z f
         go (inr ne) d = record { first = n; is = w.else z k ne ∙ e; reach = r }
-        go (inl q) (inl d) = record { first = n; is = ap next' q ∙ (w.at ∙ (ap next (d ∙ sym q) ∙ e)); reach = r }
-        go (inl q) (inr d) = past q d (one_value e (ap next q ∙ w.was)) (reach_cases next' n f r)
+        go (inl q) (inl d) = record { first = n; is = cc; reach = r }
+        go (inl q) (inr d) = past q d (cc) (reach_cases next' n f r)
 
     pub reach_unlink : (z f : ℕ) → (y ≡ f → ⊥) → kept z ≡ true → Reach next z f → Reach next' z f
     reach_unlink z f stays = reach_by_steps f (unlink_step f stays) z

@@ -1,6 +1,7 @@
 -- Ways in a graph: one more edge closes no circle if no way leads back; a closed set rules a way out; edges graded by stamps close no
 -- circle if none has a way back over older ones; a way up to its first visit.
 use Rattle.std.proofs.Common.{◌≡◌, ℕ, zero, suc, ◌+◌, ◌<◌, ◌≤◌, ◌⊎◌, sym, ◌∙◌, subst, inl, inr, arith}
+use Rattle.std.proofs.Math.Logic.{⊎_map}
 use Rattle.std.proofs.lemmas.Bool.{cases_eq}
 use Rattle.theory.specs.Ways.{Leads, Way, Acyclic, With, Avoiding, Older, Stamped}
 use Rattle.theory.specs.Ways.{Leads.last, Leads.more}
@@ -15,8 +16,7 @@ module _ {A : Type 0} where
   leads_map E F f a b l = leads_along E F (λ x. x) f a b l
 
   pub way_map : (E F : A → A → Type 0) → ((x y : A) → E x y → F x y) → (a b : A) → Way E a b → Way F a b
-  way_map E F f a b (inl e) = inl e
-  way_map E F f a b (inr l) = inr (leads_map E F f a b l)
+  way_map E F f a b w = ⊎_map (λ e. e) (leads_map E F f a b) w
 
   -- fewer edges close no circle if more do not
   pub acyclic_fewer : (E F : A → A → Type 0) → ((x y : A) → E x y → F x y) → Acyclic F → Acyclic E
@@ -57,33 +57,17 @@ module _ {A : Type 0} where
     with_edge : (a b x y : A) → Leads (With E a b) x y → Leads E x y ⊎ (Way E x a × Way E b y)
     with_edge a b x y (last (inl e)) = inl (last e)
     with_edge a b x y (last (inr e)) = inr (inl e.0, inl (sym e.1))
-    with_edge a b x y (more {b = m} (inl e) l) = go (with_edge a b m y l)
-      where
-        go : Leads E m y ⊎ (Way E m a × Way E b y) → Leads E x y ⊎ (Way E x a × Way E b y)
-        go (inl k) = inl (more e k)
-        go (inr k) = inr (inr (leads_way x m a e k.0), k.1)
-    with_edge a b x y (more {b = m} (inr e) l) = go (with_edge a b m y l)
-      where
-        go : Leads E m y ⊎ (Way E m a × Way E b y) → Leads E x y ⊎ (Way E x a × Way E b y)
-        go (inl k) = inr (inl e.0, inr (rw (sym e.1) k))
-        go (inr k) = inr (inl e.0, k.1)
+    with_edge a b x y (more {b = m} (inl e) l) = ⊎_map (more e) (λ k. (inr (leads_way x m a e k.0), k.1)) (with_edge a b m y l)
+    with_edge a b x y (more {b = m} (inr e) l) = inr (inl e.0, elim (with_edge a b m y l) [ inl k ↦ inr (rw (sym e.1) k) | inr k ↦ k.1 ])
 
     -- an edge from a to b closes no circle if no way leads from b to a
     pub acyclic_with : (a b : A) → Acyclic E → (Way E b a → ⊥) → Acyclic (With E a b)
-    acyclic_with a b none back x l = go (with_edge a b x x l)
-      where
-        go : Leads E x x ⊎ (Way E x a × Way E b x) → ⊥
-        go (inl k) = none x k
-        go (inr k) = back (way_join b x a k.1 k.0)
+    acyclic_with a b none back x l = elim (with_edge a b x x l) [ inl k ↦ none x k | inr k ↦ back (way_join b x a k.1 k.0) ]
 
     -- a way to b, up to its first visit of b
     pub first_visit : (b : A) → ((x : A) → (x ≡ b) ⊎ (x ≡ b → ⊥)) → (a : A) → (a ≡ b → ⊥) → Leads E a b → Leads (Avoiding E b) a b
     first_visit b dec a ne (last e) = last (e, ne)
-    first_visit b dec a ne (more {b = m} e l) = go (dec m) (λ d. first_visit b dec m d l)
-      where
-        go : (m ≡ b) ⊎ (m ≡ b → ⊥) → ((m ≡ b → ⊥) → Leads (Avoiding E b) m b) → Leads (Avoiding E b) a b
-        go (inl q) ih = last (rw (sym q) e, ne)
-        go (inr d) ih = more (e, ne) (ih d)
+    first_visit b dec a ne (more {b = m} e l) = elim (dec m) [ inl q ↦ last (rw (sym q) e, ne) | inr d ↦ more (e, ne) (first_visit b dec m d l) ]
 
   -- ---- edges with stamps
 
@@ -93,11 +77,9 @@ module _ {A : Type 0} where
 
     -- a stamp up to n is below n, or n
     recent : (n : ℕ) (x y : A) → Older E (suc n) x y → Older E n x y ⊎ E n x y
-    recent n x y e = go (cases_eq e.0 n)
-      where
-        go : (e.0 ≡ n) ⊎ (e.0 ≡ n → ⊥) → Older E n x y ⊎ E n x y
-        go (inl q) = inr (subst (λ t. E t x y) q e.2)
-        go (inr ne) = let lt : e.0 < suc n = e.1 in inl (e.0, omega arith, e.2)
+    recent n x y e =
+        let lt : e.0 < suc n = e.1 in
+        elim (cases_eq e.0 n) [ inl q ↦ inr (subst (λ t. E t x y) q e.2) | inr ne ↦ inl (e.0, omega arith, e.2) ]
 
     none_older : (a b : A) → Leads (Older E zero) a b → ⊥
     none_older a b (last e) = let lt : e.0 < 0 = e.1 in omega arith
@@ -117,29 +99,23 @@ module _ {A : Type 0} where
 
     -- a way over edges with stamps up to n does without those of stamp n, or there is one
     newest : (n : ℕ) (a b : A) → Leads (Older E (suc n)) a b → Leads (Older E n) a b ⊎ EdgeOf n
-    newest n a b (last e) = elim (recent n a b e) [ inl o ↦ inl (last o) | inr f ↦ inr (a, b, f) ]
-    newest n a c (more {b = b} e l) = go (recent n a b e) (newest n b c l)
-      where
-        go : Older E n a b ⊎ E n a b → Leads (Older E n) b c ⊎ EdgeOf n → Leads (Older E n) a c ⊎ EdgeOf n
-        go (inr f) k = inr (a, b, f)
-        go (inl o) (inl k) = inl (more o k)
-        go (inl o) (inr f) = inr f
+    newest n a b (last e) = ⊎_map last (λ f. (a, b, f)) (recent n a b e)
+    newest n a c (more {b = b} e l) = elim (recent n a b e) [ inl o ↦ ⊎_map (more o) (λ f. f) (newest n b c l) | inr f ↦ inr (a, b, f) ]
 
     -- a stamp is that of one edge; no edge has a way back over older ones
     module _ (one : (s : ℕ) (x y u v : A) → E s x y → E s u v → (x ≡ u) × (y ≡ v))
         (back : (s : ℕ) (x y : A) → E s x y → Way (Older E s) y x → ⊥) where
       -- the edges with stamps up to n are older ones and the one of stamp n
       with_newest : (n : ℕ) (u v : A) → E n u v → (a b : A) → Older E (suc n) a b → With (Older E n) u v a b
-      with_newest n u v e a b f = elim (recent n a b f) [ inl o ↦ inl o | inr g ↦ inr (one n a b u v g e) ]
+      with_newest n u v e a b f = ⊎_map (λ o. o) (λ g. one n a b u v g e) (recent n a b f)
 
       acyclic_older : (n : ℕ) → Acyclic (Older E n)
       acyclic_older zero x l = none_older x x l
-      acyclic_older (suc n) x l = go (newest n x x l) (acyclic_older n)
-        where
-          go : Leads (Older E n) x x ⊎ EdgeOf n → Acyclic (Older E n) → ⊥
-          go (inl k) ih = ih x k
-          go (inr (u, v, e)) ih =
-              acyclic_with (Older E n) u v ih (back n u v e) x (leads_map (Older E (suc n)) (With (Older E n) u v) (with_newest n u v e) x x l)
+      acyclic_older (suc n) x l = elim (newest n x x l) [
+        | inl k ↦ acyclic_older n x k
+        | inr (u, v, e) ↦
+            acyclic_with (Older E n) u v (acyclic_older n) (back n u v e) x (leads_map (Older E (suc n)) (With (Older E n) u v) (with_newest n u v e) x x l)
+      ]
 
       -- so the edges close no circle
       pub acyclic_stamped : Acyclic (Stamped E)
