@@ -1,6 +1,7 @@
 // Set-up at the edges of its sizes, and the size of a node.
 use nodes::controller::{Controller, JobRef, Phase};
 use nodes::node::{Kind, Node};
+use nodes::refusal::Refusal;
 use nodes::setup::{Board, Header};
 use order::row::Row;
 use std::alloc::Global;
@@ -41,26 +42,27 @@ fn answer(heap: Global, n: usize, c: usize, m: usize, first: u32) -> Result<u8, 
         controllers: &mut controllers,
         marks: &mut marks,
     };
-    match board.set_up(first) {
-        Ok(()) => Ok(0),
-        Err(refusal) => Ok(refusal.number()),
-    }
+    Ok(board.set_up(first).err().map_or(0, Refusal::number))
 }
 
 #[test]
 fn sizes_of_a_board(rt: HostRuntime) -> Result<(), Fail> {
     let heap = rt.alloc();
-    assert_eq!(rt; answer(heap, 1, 1, 1, 1)?, 0);
-    assert_eq!(rt; answer(heap, 4096, 16, 65536, 1)?, 0);
-    assert_eq!(rt; answer(heap, 4096, 17, 69632, 1)?, 1);
-    assert_eq!(rt; answer(heap, 4097, 1, 4097, 1)?, 1);
-    assert_eq!(rt; answer(heap, 0, 1, 0, 1)?, 1);
-    assert_eq!(rt; answer(heap, 1, 0, 0, 1)?, 1);
-    assert_eq!(rt; answer(heap, 8, 2, 15, 1)?, 1);
-    assert_eq!(rt; answer(heap, 8, 2, 17, 1)?, 1);
-    assert_eq!(rt; answer(heap, 8, 2, 16, 0)?, 2);
-    assert_eq!(rt; answer(heap, 8, 2, 15, 0)?, 1);
-    assert_eq!(rt; answer(heap, 8, 2, 16, u32::MAX)?, 0);
+    for (nodes, controllers, marks, first, number) in [
+        (1, 1, 1, 1, 0),
+        (4096, 16, 65536, 1, 0),
+        (4096, 17, 69632, 1, 1),
+        (4097, 1, 4097, 1, 1),
+        (0, 1, 0, 1, 1),
+        (1, 0, 0, 1, 1),
+        (8, 2, 15, 1, 1),
+        (8, 2, 17, 1, 1),
+        (8, 2, 16, 0, 2),
+        (8, 2, 15, 0, 1),
+        (8, 2, 16, u32::MAX, 0),
+    ] {
+        assert_eq!(rt; answer(heap, nodes, controllers, marks, first)?, number);
+    }
     Ok(())
 }
 
