@@ -24,20 +24,10 @@ impl fmt::Display for HeadingFault {
     ghost output = { λ e. Some (complaint e) };
 
     fn fmt<W: fmt::Write>(&self, f: &mut fmt::Formatter<W>) -> fmt::Result {
-        match self {
-            HeadingFault::Missing => {
-                write!(
-                    f,
-                    "The first line is missing: it says numbers or addresses."
-                )
-            }
-            HeadingFault::Unknown => {
-                write!(
-                    f,
-                    "The first line is unknown: it says numbers or addresses."
-                )
-            }
-        }
+        f.write_str(match self {
+            HeadingFault::Missing => "The first line is missing: it says numbers or addresses.",
+            HeadingFault::Unknown => "The first line is unknown: it says numbers or addresses.",
+        })
     }
 }
 
