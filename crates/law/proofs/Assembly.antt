@@ -13,22 +13,22 @@ use Rattle.law.proofs.Lists.{insert, entries_of_other, entries_of_own, entries_o
 use Rattle.law.proofs.Events.{began_by, same_op, steps_one, end_step, ending, over_more, changed_more, changed_less, not_yet, ran}
 
 module _ {K : Type 0} (r : Run K) where
-  -- what o answers at call j, by its one entry
-  abbrev Answered : List (Entry K) → Op K → ℕ → Type 0
-  Answered h o j = (a : Answer) × (r.handing j o.by ≡ Some a) × One r h o a j
+  -- call j hands over the answer of the one entry of o
+  abbrev EndsAsEntered : List (Entry K) → Op K → ℕ → Type 0
+  EndsAsEntered h o j = (a : Answer) × (r.handing j o.by ≡ Some a) × One r h o a j
 
-  -- the entries of o, which has not finished by call n: one with yes where it has changed the graph, else none
+  -- the entries of o, which runs after call n: one with yes if it has changed the graph, else none
   abbrev Entered : ℕ → List (Entry K) → Op K → Type 0
   Entered n h o = (Changed r n o × One r h o Yes n) ⊎ ((Changed r n o → ⊥) × (entries_of o.start h ≡ []))
 
-  -- what o answers at call n, and why
-  abbrev Ended : ℕ → Op K → Type 0
-  Ended n o = (a : Answer) × (r.handing n o.by ≡ Some a) × Due r n o a
+  -- call n hands over an answer that is due to o
+  abbrev EndsAsDue : ℕ → Op K → Type 0
+  EndsAsDue n o = (a : Answer) × (r.handing n o.by ≡ Some a) × Due r n o a
 
   -- what is carried from call to call
   record SoFar (n : ℕ) (h : List (Entry K)) : Type 0 where
     consistent : Consistent r empty 0 h
-    ended : (o : Op K) (j : ℕ) → j ≤ n → Ends r o j → Answered h o j
+    ended : (o : Op K) (j : ℕ) → j ≤ n → Ends r o j → EndsAsEntered h o j
     running : (o : Op K) → Running r n o → Entered n h o
     only : AllByRecursion (λ e. Began r n e.op) h
     graphs : (i : ℕ) → i ≤ n → Same (replayed i empty h) (r.graph i)
@@ -72,7 +72,7 @@ module _ {K : Type 0} (r : Run K) where
     quiet : Same (r.graph n) (r.graph (suc n)) → ((o : Op K) → Ends r o (suc n) → Changed r n o) → SoFar (suc n) h
     quiet same ends = record {
       consistent = s.consistent;
-      ended = λ o. replayed_suc (λ j. Ends r o j → Answered h o j) n (s.ended o) (now o);
+      ended = λ o. replayed_suc (λ j. Ends r o j → EndsAsEntered h o j) n (s.ended o) (now o);
       running = λ o w. going o (came n o w) w;
       only = only_more n h s.only;
       graphs = as_before same;
@@ -82,7 +82,7 @@ module _ {K : Type 0} (r : Run K) where
         less : (o : Op K) → Changed r (suc n) o → Changed r n o
         less o w = elim (changed_less r n o w) [ inl x ↦ x | inr x ↦ absurd (x.1 same) ]
 
-        now : (o : Op K) → Ends r o (suc n) → Answered h o (suc n)
+        now : (o : Op K) → Ends r o (suc n) → EndsAsEntered h o (suc n)
         now o e = go (c.ends o e)
           where
             one : One r h o Yes n
@@ -90,7 +90,7 @@ module _ {K : Type 0} (r : Run K) where
                 let step = end_step r (suc n) o e in
                 elim (s.running o (ran r n o step (c.alive o step))) [ inl x ↦ x.1 | inr x ↦ absurd (x.0 (ends o e)) ]
 
-            go : Ended (suc n) o → Answered h o (suc n)
+            go : EndsAsDue (suc n) o → EndsAsEntered h o (suc n)
             go (a, g, inl d) = (a, g, rw d.1 (one_more h o Yes n one))
             go (a, g, inr d) = absurd (d.0 (changed_more r n o (ends o e)))
 
@@ -109,7 +109,7 @@ module _ {K : Type 0} (r : Run K) where
         Consistent r empty 0 (insert e h) → ((i : ℕ) → i ≤ suc n → Same (replayed i empty (insert e h)) (r.graph i)) → SoFar (suc n) (insert e h)
     with_entry e step none from to end left consistent graphs = record {
       consistent = consistent;
-      ended = λ o. replayed_suc (λ j. Ends r o j → Answered (insert e h) o j) n (before o) (now o);
+      ended = λ o. replayed_suc (λ j. Ends r o j → EndsAsEntered (insert e h) o j) n (before o) (now o);
       running = λ o w. going o (cases_eq e.op.start o.start) w;
       only = each_insert (λ x. Began r (suc n) x.op) e h (began_by r (suc n) e.op step) (only_more n h s.only);
       graphs = graphs;
@@ -124,7 +124,7 @@ module _ {K : Type 0} (r : Run K) where
             let w : One r (insert e h) e.op e.answer (suc n) = (e.point, from, to, entries_of_own e h none) in
             subst (λ (o' : Op K). One r (insert e h) o' a (suc n)) p (subst (λ (a' : Answer). One r (insert e h) e.op a' (suc n)) q w)
 
-        before : (o : Op K) (j : ℕ) → j ≤ n → Ends r o j → Answered (insert e h) o j
+        before : (o : Op K) (j : ℕ) → j ≤ n → Ends r o j → EndsAsEntered (insert e h) o j
         before o j le x =
             let w = s.ended o j le x in
             let b : Began r j o = began_by r j o (end_step r j o x) in
@@ -133,7 +133,7 @@ module _ {K : Type 0} (r : Run K) where
             c.alive e.op step (j, le, rw q x) in
             (w.0, w.1, (w.2.0, w.2.1, w.2.2, rest o ne ∙ w.2.3))
 
-        now : (o : Op K) → Ends r o (suc n) → Answered (insert e h) o (suc n)
+        now : (o : Op K) → Ends r o (suc n) → EndsAsEntered (insert e h) o (suc n)
         now o x =
             let p : e.op ≡ o = steps_one r (suc n) e.op o step (end_step r (suc n) o x) in
             (e.answer, subst (λ (o' : Op K). r.handing (suc n) o'.by ≡ Some e.answer) p (end (rw p x)), own o p e.answer refl)
@@ -175,7 +175,7 @@ module _ {K : Type 0} (r : Run K) where
         end : Ends r o (suc n) → r.handing (suc n) o.by ≡ Some Yes
         end x = go (c.ends o x)
           where
-            go : Ended (suc n) o → r.handing (suc n) o.by ≡ Some Yes
+            go : EndsAsDue (suc n) o → r.handing (suc n) o.by ≡ Some Yes
             go (a, g, inl d) = rw d.1 at g
             go (a, g, inr d) = absurd (d.0 now)
 
@@ -222,7 +222,7 @@ module _ {K : Type 0} (r : Run K) where
     extend : (h' : List (Entry K)) × SoFar (suc n) h'
     extend = go c.turn
       where
-        due : Same (r.graph n) (r.graph (suc n)) → (o : Op K) → Ends r o (suc n) → Ended (suc n) o → (h' : List (Entry K)) × SoFar (suc n) h'
+        due : Same (r.graph n) (r.graph (suc n)) → (o : Op K) → Ends r o (suc n) → EndsAsDue (suc n) o → (h' : List (Entry K)) × SoFar (suc n) h'
         due same o x (a, g, inl d) = (h, quiet same (λ p y. before p (steps_one r (suc n) o p (end_step r (suc n) o x) (end_step r (suc n) p y)) (changed_less r n o d.0)))
           where
             before : (p : Op K) → o ≡ p → Changed r n o ⊎ (Steps r o (suc n) × (Same (r.graph n) (r.graph (suc n)) → ⊥)) → Changed r n p
