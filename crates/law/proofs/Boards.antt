@@ -1,5 +1,6 @@
 -- A run of calls on a fresh board is a ledger, if each of its steps makes one of a ledger's moves; so its history exists.
-use Rattle.std.proofs.Common.{◌≡◌, ℕ, zero, suc, true, ◌⊎◌, List, [], ◌∷◌, map, length, Some, None, Ok, Err, Option, Result, sym, refl, ap, ◌∙◌, subst, inl, inr, true≢false, arith}
+use Rattle.std.proofs.Common.{◌≡◌, ℕ, zero, suc, true, ◌⊎◌, List, [], ◌∷◌, map, length, Some, None, Ok, Err, Option, Result, sym, refl, ap, ◌∙◌, subst, inl, inr, true≢false}
+use Rattle.std.proofs.lemmas.Option.{same_Some}
 use Rattle.std.specs.List.{slice_get}
 use Rattle.std.specs.Result.{result_ok}
 use Rattle.std.proofs.lemmas.Bool.{cases_eq}
@@ -39,9 +40,6 @@ use Rattle.law.proofs.Graphs.{same_refl}
 use Rattle.law.proofs.Ledgers.{linearized}
 use Rattle.law.proofs.Views.{nth_set_same, nth_set_other, Refuses, Starts, start_view, Collects, collect_view, collect_gives, count_keeps, Steps, step_view}
 
-some_same : {A : Type 0} {x y : A} → Some x ≡ Some y → x ≡ y
-some_same e = cc
-
 -- ---- stages and answers
 
 abbrev done_answer : {K : Type 0} → Stage K → Option Answer
@@ -80,11 +78,11 @@ module _ {K : Type 0} where
 
   -- a controller whose stage is done has finished with that answer
   done_view : (o : Option (Controller K)) (q : Request K) (a : Answer) → stage_of o ≡ done q a → (c : Controller K) × (o ≡ Some c) × (answer_of c.phase ≡ Some a)
-  done_view None q a e = absurd (let z : ◌≡◌ {A = ℕ} 0 1 = cc in omega arith)
+  done_view None q a e = absurd cc
   done_view (Some c) q a e = (c, refl, known c.operation e)
     where
       known : (o : Option Operation) → by_operation c o ≡ done q a → answer_of c.phase ≡ Some a
-      known None e = absurd (let z : ◌≡◌ {A = ℕ} 0 1 = cc in omega arith)
+      known None e = absurd cc
       known (Some o) e = sym (phase_answer (record { operation = o; u = c.u; v = c.v }) c.phase) ∙ ap done_answer e
 
   -- a finished controller with an operation is done
@@ -92,16 +90,16 @@ module _ {K : Type 0} where
   done_stage c a e o p = (record { operation = o; u = c.u; v = c.v }, ap (by_operation c) p ∙ at c.phase e)
     where
       at : (ph : Phase) → answer_of ph ≡ Some a → by_phase (record { operation = o; u = c.u; v = c.v }) ph ≡ done (record { operation = o; u = c.u; v = c.v }) a
-      at Idle e = absurd (let z : ◌≡◌ {A = ℕ} 0 1 = cc in omega arith)
-      at (Find l x) e = absurd (let z : ◌≡◌ {A = ℕ} 0 1 = cc in omega arith)
-      at (Locate d x) e = absurd (let z : ◌≡◌ {A = ℕ} 0 1 = cc in omega arith)
-      at (LockFirst d x) e = absurd (let z : ◌≡◌ {A = ℕ} 0 1 = cc in omega arith)
-      at (LockSecond d x) e = absurd (let z : ◌≡◌ {A = ℕ} 0 1 = cc in omega arith)
-      at (Validate d x) e = absurd (let z : ◌≡◌ {A = ℕ} 0 1 = cc in omega arith)
-      at (Explore u v x t y) e = absurd (let z : ◌≡◌ {A = ℕ} 0 1 = cc in omega arith)
-      at (Unlink x y t) e = absurd (let z : ◌≡◌ {A = ℕ} 0 1 = cc in omega arith)
-      at (Unlock x y t) e = absurd (let z : ◌≡◌ {A = ℕ} 0 1 = cc in omega arith)
-      at (NextJob j x) e = absurd (let z : ◌≡◌ {A = ℕ} 0 1 = cc in omega arith)
+      at Idle e = absurd cc
+      at (Find l x) e = absurd cc
+      at (Locate d x) e = absurd cc
+      at (LockFirst d x) e = absurd cc
+      at (LockSecond d x) e = absurd cc
+      at (Validate d x) e = absurd cc
+      at (Explore u v x t y) e = absurd cc
+      at (Unlink x y t) e = absurd cc
+      at (Unlock x y t) e = absurd cc
+      at (NextJob j x) e = absurd cc
       at (Finished b) e = let s : b ≡ a = cc in ap (done (record { operation = o; u = c.u; v = c.v })) s
 
   -- ---- a controller that is not idle has an operation
@@ -117,7 +115,7 @@ module _ {K : Type 0} where
   named_but m n w c is own others all d e q = go (cases_eq d w)
     where
       go : (d ≡ w) ⊎ (d ≡ w → ⊥) → Named e
-      go (inl p) = let s : c ≡ e = some_same (sym is ∙ ap (λ i. slice_get n.controllers i) (sym p) ∙ q) in subst Named s own
+      go (inl p) = let s : c ≡ e = same_Some c e (sym is ∙ ap (λ i. slice_get n.controllers i) (sym p) ∙ q) in subst Named s own
       go (inr ne) = all d e (sym (others d ne) ∙ q)
 
   named_operation : (c : Controller K) → Named c → is_running c.phase ≡ true → (o : Operation) × (c.operation ≡ Some o)
@@ -149,7 +147,7 @@ module _ {K : Type 0} where
   finished_operation c a own e = go c.operation refl
     where
       go : (o : Option Operation) → c.operation ≡ o → (p : Operation) × (c.operation ≡ Some p)
-      go None p = absurd (let f : answer_of Idle ≡ Some a = sym (ap answer_of (own p)) ∙ e in let z : ◌≡◌ {A = ℕ} 0 1 = cc in omega arith)
+      go None p = absurd (let f : answer_of Idle ≡ Some a = sym (ap answer_of (own p)) ∙ e in cc)
       go (Some o) p = (o, p)
 
 module _ {K : Type 0} (order : K → K → Ordering) (m : Memory K) (cs : List (Call K)) where
@@ -194,7 +192,7 @@ module _ {K : Type 0} (order : K → K → Ordering) (m : Memory K) (cs : List (
           by (inl (e, p)) = kept _ (next_is n _ q) (ap (λ x. x.1) p)
           by (inr (o, c, _, at, p)) =
               let is = next_is n _ q ∙ ap (λ x. x.1) p in
-              subst AllNamed (sym is) (named_but (M n) (begin (M n) w o u v) w _ (nth_set_same (M n).controllers w _ c at) (λ x. absurd (let z : ◌≡◌ {A = ℕ} 0 1 = cc in omega arith)) (λ d ne. nth_set_other (M n).controllers w d _ ne) old)
+              subst AllNamed (sym is) (named_but (M n) (begin (M n) w o u v) w _ (nth_set_same (M n).controllers w _ c at) (λ x. absurd cc) (λ d ne. nth_set_other (M n).controllers w d _ ne) old)
       go (Step w) q = by (step_view (M n) order w)
         where
           by : Refuses (M n) (calls.stepped order w (M n)) ⊎ Steps (M n) order w → AllNamed (M (suc n))
@@ -202,7 +200,7 @@ module _ {K : Type 0} (order : K → K → Ordering) (m : Memory K) (cs : List (
           by (inr (s, x, p, t)) =
               let is = next_is n _ q ∙ ap (λ y. y.1) p in
               let has = named_operation t.before (old w t.before t.was) t.ran in
-              let own : Named t.after = λ none. absurd (let f : Some has.0 ≡ None = sym has.1 ∙ sym t.operation ∙ none in let z : ◌≡◌ {A = ℕ} 0 1 = cc in omega arith) in
+              let own : Named t.after = λ none. absurd (let f : Some has.0 ≡ None = sym has.1 ∙ sym t.operation ∙ none in cc) in
               subst AllNamed (sym is) (named_but (M n) x w t.after t.is own t.others old)
       go (Collect w) q = by (collect_view (M n) w)
         where
@@ -299,8 +297,8 @@ module _ {K : Type 0} where
   fresh_graph (n ∷ ns) = record { job = λ k. (λ x. x.1, λ x. absurd x); wait = λ a b. (λ x. x.wait, λ x. absurd x) }
 
   fresh_none : (cs : List (Controller K)) (w : ℕ) (c : Controller K) → slice_get (map fresh_controller cs) w ≡ Some c → (c.operation ≡ None) × (c.phase ≡ Idle)
-  fresh_none [] w c e = absurd (let z : ◌≡◌ {A = ℕ} 0 1 = cc in omega arith)
-  fresh_none (d ∷ cs) zero c e = let s : fresh_controller d ≡ c = some_same e in (ap (λ (x : Controller K). x.operation) (sym s), ap (λ (x : Controller K). x.phase) (sym s))
+  fresh_none [] w c e = absurd cc
+  fresh_none (d ∷ cs) zero c e = let s : fresh_controller d ≡ c = same_Some (fresh_controller d) c e in (ap (λ (x : Controller K). x.operation) (sym s), ap (λ (x : Controller K). x.phase) (sym s))
   fresh_none (d ∷ cs) (suc w) c e = fresh_none cs w c e
 
   fresh_rest : (cs : List (Controller K)) (w : ℕ) → stage_of (slice_get (map fresh_controller cs) w) ≡ rest

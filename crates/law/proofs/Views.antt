@@ -1,6 +1,8 @@
 -- What a call can have done: refused, with the memory as it was, or taken.
-use Rattle.std.proofs.Common.{◌≡◌, ℕ, zero, suc, Bool, true, false, eqb, ◌⊎◌, List, [], ◌∷◌, set, Some, None, Ok, Err, Option, refl, ap, ◌∙◌, inl, inr, arith}
+use Rattle.std.proofs.Common.{◌≡◌, ℕ, Bool, true, false, eqb, ◌⊎◌, List, set, Some, None, Ok, Err, Option, refl, ap, ◌∙◌, inl, inr, arith}
 use Rattle.std.specs.List.{slice_get}
+use Rattle.std.proofs.lemmas.Grind.{common_steps}
+use Rattle.std.proofs.lemmas.Option.{gets}
 use Rattle.std.specs.declared.cmp.Ordering.{Ordering}
 use Rattle.nodes.specs.declared.call.StepOutcome.{StepOutcome}
 use Rattle.nodes.specs.declared.call.StepOutcome.TheVariants.{Waiting}
@@ -25,16 +27,10 @@ use Rattle.rules.specs.Write.{applied}
 -- ---- elements of a list after a write
 
 pub nth_set_same : {A : Type 0} (l : List A) (i : ℕ) (x y : A) → slice_get l i ≡ Some y → slice_get (set l i x) i ≡ Some x
-nth_set_same [] i x y h = absurd (let z : ◌≡◌ {A = ℕ} 0 1 = cc in omega arith)
-nth_set_same (a ∷ l) zero x y h = refl
-nth_set_same (a ∷ l) (suc i) x y h = nth_set_same l i x y h
+nth_set_same l i x y h = grind (arith, common_steps, gets)
 
 pub nth_set_other : {A : Type 0} (l : List A) (i j : ℕ) (x : A) → (j ≡ i → ⊥) → slice_get (set l i x) j ≡ slice_get l j
-nth_set_other [] i j x h = refl
-nth_set_other (a ∷ l) zero zero x h = absurd (h refl)
-nth_set_other (a ∷ l) zero (suc j) x h = refl
-nth_set_other (a ∷ l) (suc i) zero x h = refl
-nth_set_other (a ∷ l) (suc i) (suc j) x h = nth_set_other l i j x (λ e. h (ap suc e))
+nth_set_other l i j x h = grind (arith, common_steps, gets)
 
 module _ {K : Type 0} (m : Memory K) where
   -- a call was refused, and the memory is as it was
