@@ -74,7 +74,9 @@ pub fn highest_reusable<K>(
 pub fn count_reusable<K>(controllers: &[Controller<K>], nodes: &[Node<K>]) -> usize
     ensures { result ≡ reusable_count controllers.now nodes.now (length nodes.now) }
 {
-    (0..nodes.len())
-        .filter(|n| is_reusable_at(controllers, nodes, *n))
+    nodes
+        .iter()
+        .enumerate()
+        .filter(|(n, node)| is_reusable(controllers, *n, node))
         .count()
 }
