@@ -49,7 +49,8 @@ pub(crate) fn number(word: &[u8]) -> Option<u32>
 }
 
 // The numbers that these words write, if each writes one.
-// A loop: of a `collect` into an `Option` the library does not say that it fails where an item does.
+// A loop: tried as a `collect` into an `Option`, of whose value the library says nothing, so that the
+// proof did not close.
 pub(crate) fn numbers(heap: Global, words: &[&[u8]]) -> Result<Option<Vec<u32>>, AllocError>
     ensures { IfOk result (λ o. option_map vec_items o ≡ numbers_in (map (λ x. x.now) words.now)) }
 {

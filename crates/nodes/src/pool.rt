@@ -1,5 +1,6 @@
 // The nodes of a board as a pool: its methods hand the slice to the functions that find nodes to be
-// used again, link and unlink. That it is a struct over the slice is a rule of the project.
+// used again, link and unlink. That it is a struct over the slice is a rule of the project. The clause
+// `same` stands with each method that writes: it relates two values, which no ghost field can.
 ghost use Rattle.std.specs.Prelude.{◌≡◌, length};
 ghost use Rattle.nodes.specs.Effects.{written, link_job, link_wait, unlink as unlinked};
 ghost use Rattle.nodes.specs.Reuse.{highest, reusable_count};

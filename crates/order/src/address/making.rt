@@ -10,7 +10,8 @@ use crate::row::Row;
 pub struct NoPlace;
 
 impl NoPlace {
-    // The number by which the refusal is told.
+    // The number by which the refusal is told. A method, and no `From`: it is said of the refusal, and
+    // is not the refusal as another type.
     pub fn number(self) -> u8
         ensures { result ≡ refusal_number self }
     {
