@@ -6,7 +6,7 @@ use nodes::controller::{JobRef, Phase};
 use nodes::node::Pair;
 
 // What a step writes to nodes. There are only these effects.
-#[derive(Clone, Copy)]
+#[derive(Clone, Copy, PartialEq, Eq, Debug)]
 pub enum Effect<K> {
     Nothing,
     Lock {
@@ -66,7 +66,7 @@ impl From<Mark> for u8 {
 
 // What a step writes to its controller's marks: nothing, all unvisited but for one node that is the
 // frontier, or one mark.
-#[derive(Clone, Copy)]
+#[derive(Clone, Copy, PartialEq, Eq, Debug)]
 pub enum Marking {
     Keep,
     Begin { node: u16 },
@@ -75,7 +75,7 @@ pub enum Marking {
 
 // A step is blocked by a lock that another controller holds, or writes and goes on to a phase.
 // An enum, and no `Option`: blocked is an answer of the step, and in the rules `None` is damage.
-#[derive(Clone, Copy)]
+#[derive(Clone, Copy, PartialEq, Eq, Debug)]
 pub enum Decision<K> {
     Blocked,
     Take {
