@@ -142,7 +142,8 @@ fn report_names<K: Name>(heap: Global, lines: &[&[u8]], from: usize) -> Result<S
     tell(heap, &keys, &listing.faults)
 }
 
-// What is told under a heading of the lines behind it.
+// What is told under a heading of the lines behind it. A match, and no closure: each kind calls one
+// generic function at a type of its own.
 fn report_under(heap: Global, heading: Heading, lines: &[&[u8]]) -> Result<String, AllocError>
     ensures { IfOk result (λ s. TellsUnder heading.kind heading.behind (map (λ x. x.now) lines.now) (string_bytes s)) }
 {

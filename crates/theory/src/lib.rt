@@ -24,7 +24,8 @@ pub fn theory_holds<K: Key, A, B>(first: K, second: K) -> Ordering
     first.compare(second)
 }
 
-// Does nothing. Its contract has the facts, so that their proof stands apart from that of the value above.
+// Does nothing. Its contract has the facts, so that their proof stands apart from that of the value above. That both
+// write them out is plainer than one record of all: each clause names one fact.
 fn facts<K: Key, A, B>(_kind: K)
     ensures chains { ChainFacts }
     ensures reachability { ReachFacts }
