@@ -19,10 +19,18 @@ use Rattle.nodes.specs.declared.controller.JobRef.{JobRef}
 use Rattle.nodes.specs.declared.node.Node.{Node}
 use Rattle.nodes.specs.declared.node.Kind.{Kind}
 use Rattle.nodes.specs.declared.node.Kind.TheVariants.{Vacant, Sentinel, Job, Wait}
+use Rattle.nodes.specs.declared.node.WaitState.{WaitState}
 use Rattle.nodes.specs.declared.node.WaitState.TheVariants.{Tentative, Committed, Removed}
 use Rattle.nodes.specs.declared.refusal.Damage.{Damage}
 use Rattle.nodes.specs.Access.{◌>>=◌, when, same_number, node_at, new_node, with_next, with_lock, with_kind, with_retired}
 use Rattle.nodes.specs.Chains.{is_sentinel, heads, chain_of}
+
+-- the kind of a wait in another state
+abbrev pub with_state : WaitState → Kind → Option Kind
+with_state state Vacant = None
+with_state state Sentinel = None
+with_state state (Job g s r) = None
+with_state state (Wait g t s) = Some (Wait g t state)
 
 abbrev pub removed_kind : Kind → Option Kind
 removed_kind Vacant = None
@@ -31,10 +39,7 @@ removed_kind (Job g s r) = Some (Job g s true)
 removed_kind (Wait g t s) = Some (Wait g t Removed)
 
 abbrev pub committed_kind : Kind → Option Kind
-committed_kind Vacant = None
-committed_kind Sentinel = None
-committed_kind (Job g s r) = None
-committed_kind (Wait g t s) = Some (Wait g t Committed)
+committed_kind kind = with_state Committed kind
 
 abbrev pub lockable : ℕ → Option ℕ → Bool
 lockable w None = true

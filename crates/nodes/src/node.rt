@@ -1,6 +1,6 @@
 // Nodes, from which all chains of the board are made.
 ghost use Rattle.std.specs.Prelude.{◌≡◌};
-ghost use Rattle.nodes.specs.Effects.{removed_kind, committed_kind};
+ghost use Rattle.nodes.specs.Effects.{with_state, removed_kind, committed_kind};
 ghost use Rattle.nodes.specs.Access.{new_node};
 
 // A pair of neighbours: a node and the next one of its chain, or none. It is a tuple and no struct, by
@@ -36,12 +36,29 @@ pub enum Kind {
 }
 
 impl Kind {
+    // The kind of a wait in another state.
+    fn with_state(self, state: WaitState) -> Option<Kind>
+        ensures { result ≡ with_state state self }
+    {
+        match self {
+            Kind::Wait {
+                generation,
+                target,
+                ..
+            } => Some(Kind::Wait {
+                generation,
+                target,
+                state,
+            }),
+            _ => None,
+        }
+    }
+
     // The kind of a job or a wait once it is removed.
     pub(crate) fn removed(self) -> Option<Kind>
         ensures { result ≡ removed_kind self }
     {
         match self {
-            Kind::Vacant | Kind::Sentinel => None,
             Kind::Job {
                 generation,
                 sentinel,
@@ -51,15 +68,7 @@ impl Kind {
                 sentinel,
                 removed: true,
             }),
-            Kind::Wait {
-                generation,
-                target,
-                ..
-            } => Some(Kind::Wait {
-                generation,
-                target,
-                state: WaitState::Removed,
-            }),
+            _ => self.with_state(WaitState::Removed),
         }
     }
 
@@ -67,18 +76,7 @@ impl Kind {
     pub(crate) fn committed(self) -> Option<Kind>
         ensures { result ≡ committed_kind self }
     {
-        match self {
-            Kind::Wait {
-                generation,
-                target,
-                ..
-            } => Some(Kind::Wait {
-                generation,
-                target,
-                state: WaitState::Committed,
-            }),
-            _ => None,
-        }
+        self.with_state(WaitState::Committed)
     }
 }
 

@@ -5,7 +5,7 @@ ghost use Rattle.std.specs.Prelude.{◌≤◌};
 pub mod making;
 
 // An address that exists: aisle 1 to 99, bay 1 to 999, level 1 to 30.
-#[derive(Clone, Copy)]
+#[derive(Clone, Copy, PartialEq, Eq, Debug)]
 pub struct Address {
     aisle: u8,
     bay: u16,
