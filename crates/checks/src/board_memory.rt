@@ -30,7 +30,8 @@ const BUSY: Controller<u32> = Controller {
     },
 };
 
-// What set-up answers on so many nodes, controllers and marks, as the number of its refusal; 0 if it is taken.
+// What set-up answers on so many nodes, controllers and marks, as the number by which its refusal is told, so
+// that the numbers are tried too; 0 if it is taken.
 fn answer(heap: Global, n: usize, c: usize, m: usize, first: u32) -> Result<u8, Fail> {
     let mut header = Header { next_ticket: 77 };
     let mut nodes = vec![in heap; USED; n]?;
@@ -80,13 +81,26 @@ fn set_up_clears_all_but_keys(rt: HostRuntime) {
     };
     assert_eq!(rt; board.set_up(4), Ok(()));
     assert_eq!(rt; header.next_ticket, 4);
-    assert_eq!(rt; nodes[0].kind, Kind::Sentinel);
-    assert_eq!(rt; nodes[1].kind, Kind::Vacant);
-    assert_eq!(rt; nodes[1].key, 7);
-    assert!(rt; nodes[1].next.is_none() && nodes[1].lock.is_none() && nodes[1].retired.is_none());
-    assert_eq!(rt; controllers[0].phase, Phase::Idle);
-    assert_eq!(rt; controllers[0].u, 5);
-    assert_eq!(rt; marks[1], 0);
+    let vacant = Node {
+        key: 7,
+        kind: Kind::Vacant,
+        next: None,
+        lock: None,
+        retired: None,
+    };
+    let kind = Kind::Sentinel;
+    assert_eq!(rt; nodes, [Node { kind, ..vacant }, vacant]);
+    assert_eq!(rt;
+        controllers,
+        [Controller {
+            operation: None,
+            u: 5,
+            v: 6,
+            ticket: 0,
+            phase: Phase::Idle,
+        }]
+    );
+    assert_eq!(rt; marks, [0, 0]);
 }
 
 #[test]

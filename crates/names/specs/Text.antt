@@ -1,4 +1,5 @@
 -- The bytes of a text as lines, words and numbers. Assumes nothing.
+--     texts rs            the bytes that references point to
 --     lines bs            what stands between the line feeds of bs, in order
 --     blank b             the byte b is a blank, a tab or a carriage return
 --     words bs            the runs of bytes between blanks
@@ -6,9 +7,13 @@
 --     read_on n bs        n with the digits bs behind it, likewise
 --     number bs           the number that bs, at least one digit, writes
 --     numbers ws          the numbers that the words write, if each writes one
-use Rattle.std.specs.Prelude.{ℕ, ◌+◌, ◌-◌, ◌*◌, ◌^◌, Bool, true, false, not, ◌&&◌, ◌||◌, List, [], ◌∷◌, filter, length, Some, None, Option, ◌==◌, nat_le, nat_lt}
+use Rattle.std.specs.Borrow.{Bor}
+use Rattle.std.specs.Prelude.{ℕ, ◌+◌, ◌-◌, ◌*◌, ◌^◌, Bool, true, false, not, ◌&&◌, ◌||◌, List, [], ◌∷◌, filter, map, length, Some, None, Option, ◌==◌, nat_le, nat_lt}
 use Rattle.std.specs.List.{slice_split}
 use Rattle.std.specs.Option.{option_map, option_zip}
+
+abbrev pub texts : List (Bor (List ℕ)) → List (List ℕ)
+texts rs = map (λ r. r.now) rs
 
 abbrev pub lines : List ℕ → List (List ℕ)
 lines bs = slice_split (λ b. b == 10) bs

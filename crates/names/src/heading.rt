@@ -1,5 +1,6 @@
 // The first line of a list, which says of what kind its names are.
-ghost use Rattle.std.specs.Prelude.{◌≡◌, map, IfOk, Some};
+ghost use Rattle.std.specs.Prelude.{◌≡◌, IfOk, Some};
+ghost use Rattle.names.specs.Text.{texts};
 ghost use Rattle.names.specs.Headings.{complaint, heading_word, heading_line, headed};
 
 use crate::text::words;
@@ -38,6 +39,7 @@ pub(crate) struct Heading {
     pub(crate) behind: usize,
 }
 
+// What a line of this one word says.
 fn read_word(word: &[u8]) -> Result<NameKind, HeadingFault>
     ensures { result ≡ heading_word word.now }
 {
@@ -50,7 +52,7 @@ fn read_word(word: &[u8]) -> Result<NameKind, HeadingFault>
 
 // What a line of these words says, if there is a word on it.
 fn read_words(words: &[&[u8]]) -> Option<Result<NameKind, HeadingFault>>
-    ensures { result ≡ heading_line (map (λ x. x.now) words.now) }
+    ensures { result ≡ heading_line (texts words.now) }
 {
     match words {
         [] => None,
@@ -59,13 +61,13 @@ fn read_words(words: &[&[u8]]) -> Option<Result<NameKind, HeadingFault>>
     }
 }
 
-// The heading that the first line with a word on it gives, under want of memory.
+// The heading that the first line with a word on it gives; the outer error is want of memory.
 // One error enum of both is no plainer: a fault is told, and only want of memory is handed on.
 pub(crate) fn find_heading(
     heap: Global,
     lines: &[&[u8]],
 ) -> Result<Result<Heading, HeadingFault>, AllocError>
-    ensures { IfOk result (λ h. h ≡ headed 0 (map (λ x. x.now) lines.now)) }
+    ensures { IfOk result (λ h. h ≡ headed 0 (texts lines.now)) }
 {
     for (i, line) in lines.iter().enumerate() {
         let words = words(heap, line)?;

@@ -1,5 +1,6 @@
 // A list of names, read line by line.
-ghost use Rattle.std.specs.Prelude.{◌≡◌, ◌+◌, ◌++◌, map, drop, IfOk, OnOk};
+ghost use Rattle.std.specs.Prelude.{◌≡◌, ◌+◌, ◌++◌, drop, IfOk, OnOk};
+ghost use Rattle.names.specs.Text.{texts};
 ghost use Rattle.names.specs.Listings.{entry as entry_on, names as names_in, faults as faults_in, name_of, fault_of};
 
 use crate::name::{Fault, Name};
@@ -20,7 +21,7 @@ pub struct Listing<K> {
     pub faults: Vec<LineFault>,
 }
 
-// What one line gives, under want of memory.
+// What one line gives; the outer error is want of memory.
 // One error enum of both is no plainer: a fault is noted, and only want of memory ends the reading.
 fn entry<K: Name>(heap: Global, line: &[u8]) -> Result<Result<Option<K>, Fault>, AllocError>
     ensures { IfOk result (λ e. e ≡ entry_on K.named line.now) }
@@ -50,14 +51,15 @@ impl<K: Name> Listing<K> {
     }
 }
 
-// What the lines from this index on give. A line's number is one more than its index.
+// What the lines from this index on give. A line's number is one more than its index. Lines and index
+// are two parameters: a struct of them would be made here and taken apart here.
 pub fn read_lines<K: Name>(
     heap: Global,
     lines: &[&[u8]],
     from: usize,
 ) -> Result<Listing<K>, AllocError>
-    ensures names { IfOk result (λ l. l.names.items ≡ names_in K.named (map (λ x. x.now) (drop from lines.now))) }
-    ensures faults { IfOk result (λ l. l.faults.items ≡ faults_in K.named (from + 1) (map (λ x. x.now) (drop from lines.now))) }
+    ensures names { IfOk result (λ l. l.names.items ≡ names_in K.named (texts (drop from lines.now))) }
+    ensures faults { IfOk result (λ l. l.faults.items ≡ faults_in K.named (from + 1) (texts (drop from lines.now))) }
 {
     let mut listing = Listing {
         names: Vec::new(heap),

@@ -34,7 +34,7 @@ pub trait Name: Key + Display {
     ghost expected: { List ℕ };
 
     // The key that these numbers name.
-    // Not a `TryFrom`, since `u32` is the library's, and its impls are too.
+    // No `TryFrom`: neither a slice nor `u32` is ours, so no impl between them may be.
     fn from_numbers(numbers: &[u32]) -> Result<Self, Fault>
         ensures { result ≡ named numbers.now };
 

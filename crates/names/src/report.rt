@@ -1,5 +1,6 @@
 // What is told of a list: its faults, its names in the board's order, and a line that sums up.
-ghost use Rattle.std.specs.Prelude.{◌≡◌, ◌++◌, map, IfOk, Some, None as Nothing, string_bytes, OnOk};
+ghost use Rattle.std.specs.Prelude.{◌≡◌, ◌++◌, IfOk, Some, None as Nothing, string_bytes, OnOk};
+ghost use Rattle.names.specs.Text.{texts};
 ghost use Rattle.names.specs.Reports.{refused_count, fault_line, fault_lines, repeats as repeats_key, doubles as doubles_in, name_line, name_lines, summary, summed, told, Reported, TellsUnder, Tells};
 
 use crate::heading::{Heading, NameKind, find_heading};
@@ -54,7 +55,8 @@ fn push_name<K: Name>(
     writeln!(out, "{place}: {key}{mark}")
 }
 
-// Adds the lines for the keys, in their order.
+// Adds the lines for the keys, in their order. The key in front is carried along: the first has none,
+// so that a chain over neighbours is no plainer.
 fn push_names<K: Name>(out: &mut String, keys: &[K]) -> Result<(), AllocError>
     ensures { OnOk result (string_bytes out.new ≡ string_bytes out.old ++ name_lines K.Key.order K.written Nothing 1 keys.now) }
 {
@@ -135,7 +137,7 @@ fn tell<K: Name>(heap: Global, keys: &[K], faults: &[LineFault]) -> Result<Strin
 
 // What is told of the names on the lines from this index on.
 fn report_names<K: Name>(heap: Global, lines: &[&[u8]], from: usize) -> Result<String, AllocError>
-    ensures { IfOk result (λ s. Reported K.Key.order K.named K.written K.expected from (map (λ x. x.now) lines.now) (string_bytes s)) }
+    ensures { IfOk result (λ s. Reported K.Key.order K.named K.written K.expected from (texts lines.now) (string_bytes s)) }
 {
     let listing = read_lines::<K>(heap, lines, from)?;
     let keys = arrange(heap, &listing.names)?;
@@ -145,7 +147,7 @@ fn report_names<K: Name>(heap: Global, lines: &[&[u8]], from: usize) -> Result<S
 // What is told under a heading of the lines behind it. A match, and no closure: each kind calls one
 // generic function at a type of its own.
 fn report_under(heap: Global, heading: Heading, lines: &[&[u8]]) -> Result<String, AllocError>
-    ensures { IfOk result (λ s. TellsUnder heading.kind heading.behind (map (λ x. x.now) lines.now) (string_bytes s)) }
+    ensures { IfOk result (λ s. TellsUnder heading.kind heading.behind (texts lines.now) (string_bytes s)) }
 {
     match heading.kind {
         NameKind::Numbers => report_names::<u32>(heap, lines, heading.behind),

@@ -1,13 +1,13 @@
 // The bytes of a text as lines, words and numbers.
-ghost use Rattle.std.specs.Prelude.{◌≡◌, map, IfOk, vec_items};
+ghost use Rattle.std.specs.Prelude.{◌≡◌, IfOk, vec_items};
 ghost use Rattle.std.specs.Option.{option_map};
-ghost use Rattle.names.specs.Text.{blank, lines as lines_of, words as words_of, with_digit, number as number_in, numbers as numbers_in};
+ghost use Rattle.names.specs.Text.{texts, blank, lines as lines_of, words as words_of, with_digit, number as number_in, numbers as numbers_in};
 
 use std::alloc::{AllocError, Global};
 
 // What stands between the line feeds, in order.
 pub(crate) fn lines<'a>(heap: Global, text: &'a [u8]) -> Result<Vec<&'a [u8]>, AllocError>
-    ensures { IfOk result (λ v. map (λ x. x.now) v.items ≡ lines_of text.now) }
+    ensures { IfOk result (λ v. texts v.items ≡ lines_of text.now) }
 {
     text.split(|b| *b == b'\n').collect(heap)
 }
@@ -21,7 +21,7 @@ fn is_blank(b: u8) -> bool
 
 // The words of a line: what stands between its blanks, but for what is empty.
 pub(crate) fn words<'a>(heap: Global, line: &'a [u8]) -> Result<Vec<&'a [u8]>, AllocError>
-    ensures { IfOk result (λ v. map (λ x. x.now) v.items ≡ words_of line.now) }
+    ensures { IfOk result (λ v. texts v.items ≡ words_of line.now) }
 {
     line.split(|b| is_blank(*b))
         .filter(|w| !w.is_empty())
@@ -52,7 +52,7 @@ pub(crate) fn number(word: &[u8]) -> Option<u32>
 // A loop: tried as a `collect` into an `Option`, of whose value the library says nothing, so that the
 // proof did not close.
 pub(crate) fn numbers(heap: Global, words: &[&[u8]]) -> Result<Option<Vec<u32>>, AllocError>
-    ensures { IfOk result (λ o. option_map vec_items o ≡ numbers_in (map (λ x. x.now) words.now)) }
+    ensures { IfOk result (λ o. option_map vec_items o ≡ numbers_in (texts words.now)) }
 {
     let mut numbers = Vec::new(heap);
     for word in words {

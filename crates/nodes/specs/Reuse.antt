@@ -5,7 +5,8 @@
 --     reusable cs i n     the node n, whose number is i, may be used again
 --     highest b           the highest number below b of such a node
 --     reusable_count b    how many numbers below b there are of such nodes
-use Rattle.std.specs.Prelude.{ℕ, zero, suc, ◌+◌, Bool, true, false, cond, not, ◌&&◌, ◌||◌, List, [], ◌∷◌, Some, None, Option, ◌==◌, nat_lt}
+use Rattle.std.specs.List.{list_any}
+use Rattle.std.specs.Prelude.{ℕ, zero, suc, ◌+◌, Bool, true, false, cond, not, ◌&&◌, ◌||◌, List, Some, None, Option, ◌==◌, nat_lt}
 use Rattle.nodes.specs.declared.controller.Controller.{Controller}
 use Rattle.nodes.specs.declared.controller.Phase.{Phase}
 use Rattle.nodes.specs.declared.controller.Phase.TheVariants.{Idle, Find, Locate, LockFirst, LockSecond, Validate, Explore, Unlink, Unlock, NextJob, Finished}
@@ -31,8 +32,7 @@ module _ {K : Type 0} where
   precedes c n = is_running c.phase && nat_lt c.ticket n
 
   abbrev pub awaited : List (Controller K) → ℕ → Bool
-  awaited [] n = false
-  awaited (c ∷ cs) n = precedes c n || awaited cs n
+  awaited cs n = list_any (λ c. precedes c n) cs
 
   abbrev pub retired_long : List (Controller K) → Option ℕ → Bool
   retired_long cs None = false

@@ -1,4 +1,4 @@
-// Nodes by their number: the two functions through which all others read and write.
+// Nodes by their number: the two functions through which nearly all others read and write.
 ghost use Rattle.std.specs.Prelude.{◌≡◌, slice_set};
 ghost use Rattle.nodes.specs.Access.{node_at};
 
@@ -12,7 +12,7 @@ pub fn read<K: Copy>(nodes: &[Node<K>], at: usize) -> Option<Node<K>>
 }
 
 // Writes a node in the place of the one with this number; a number past the end changes nothing.
-// It indexes the slice: a proof knows nothing of what is written through a slice's `get_mut`.
+// By index: tried by `get_mut`, of whose writes the library says nothing, so the proof did not close.
 pub fn put<K: Copy>(nodes: &mut [Node<K>], at: usize, node: Node<K>)
     ensures { nodes.new ≡ slice_set nodes.old at node }
 {

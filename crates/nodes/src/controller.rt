@@ -46,7 +46,7 @@ impl TryFrom<u8> for Operation {
     }
 }
 
-// A job that an operation has found: its node, its generation and its sentinel.
+// A job, by its node, its generation and its sentinel.
 #[derive(Clone, Copy, Debug, PartialEq, Eq)]
 pub struct JobRef {
     pub node: u16,
@@ -74,7 +74,8 @@ pub enum Goal {
 
 // What is to be done with a pair of neighbouring nodes, once it is located and locked. `Empty` takes
 // the first wait out of the chain of a removed job; `Sweep` takes the wait to a removed job out of the
-// chain of the job at `place`, which hangs from `sentinel`.
+// chain of the job at `place`, which hangs from `sentinel`. The jobs of a wait, u and v, stay two
+// fields here and in phases: the rules look at each by itself, so one struct of both is no plainer.
 #[derive(Clone, Copy, Debug, PartialEq, Eq)]
 pub enum Edit {
     AddJob,

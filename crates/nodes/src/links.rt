@@ -47,7 +47,8 @@ pub fn link_job<K: Copy>(
     Ok(())
 }
 
-// Links a new tentative wait to a job between a pair of neighbours, locked by its maker.
+// Links a new tentative wait to a job between a pair of neighbours, locked by its maker. The wait, its
+// key and its target stay parameters: a struct of them would be the effect's fields once more.
 pub fn link_wait<K: Copy>(
     nodes: &mut [Node<K>],
     pair: Pair,

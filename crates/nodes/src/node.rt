@@ -92,7 +92,7 @@ pub struct Node<K> {
 }
 
 impl<K> Node<K> {
-    // A node with a key and a kind: no next node, no lock, in use.
+    // A node with a key and a kind: no next node, no lock, not retired.
     pub(crate) fn new(key: K, kind: Kind) -> Node<K>
         ensures { result ≡ new_node key kind }
     {

@@ -10,6 +10,7 @@ use crate::node::{Node, Pair};
 use crate::refusal::Damage;
 use crate::{links, reuse};
 
+// The nodes of a board.
 #[derive(Drop)]
 pub struct Pool<'a, K> {
     pub nodes: &'a mut [Node<K>],

@@ -50,8 +50,8 @@ impl From<UnknownOperation> for Refusal {
 }
 
 impl Refusal {
-    // The number by which a refusal is told. A method, and no `From`: it is said of the refusal, and
-    // is not the refusal as another type.
+    // The number by which a refusal is told. A method, and no `From`: `refusal.number()`
+    // says which number it is, `u8::from(refusal)` would not.
     pub fn number(self) -> u8
         ensures { result ≡ refusal_number self }
     {

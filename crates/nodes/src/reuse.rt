@@ -1,4 +1,5 @@
-// Which nodes may be used again.
+// Which nodes may be used again. Controllers and nodes are two slices here, since the pool hands its
+// own slice on, a rule of the project.
 ghost use Rattle.std.specs.Prelude.{◌≡◌, length};
 ghost use Rattle.nodes.specs.Reuse.{is_running, precedes as comes_before, awaited as is_awaited, retired_long, reusable, reusable_at, highest, reusable_count};
 

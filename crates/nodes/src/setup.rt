@@ -71,8 +71,8 @@ fn set_up_marks(marks: &mut [u8])
     marks.fill(0);
 }
 
-// The memory of a board, which the caller lends, by a rule of the project: slices, and numbers of
-// their elements, with no heap.
+// The memory of a board, which the caller lends, by a rule of the project: slices, whose nodes name
+// one another by number, and no heap.
 #[derive(Drop)]
 pub struct Board<'a, K> {
     pub header: &'a mut Header,

@@ -8,8 +8,8 @@ use std::cmp::Ordering;
 // A kind of key. `order` is what the kind says of two keys, and `compare` answers just that.
 // The laws: a key is the same as itself and as no other, turning the pair round swaps before and
 // after, and before carries over a middle key. So a kind that tells no keys apart has no more than
-// one key. A trait beside `Ord`, by a rule of the project: a kind shows more than `Ord` asks, since
-// there equal keys may differ, and shows it of a comparison that is its own.
+// one key. A trait beside `Ord`, by a rule of the project: a kind shows more than `Ord` asks, under
+// which equal keys may differ, and shows it of a comparison that is its own.
 pub trait Key: Copy {
     ghost order: { Self → Self → Ordering };
 

@@ -12,7 +12,7 @@ use Rattle.nodes.specs.declared.controller.Controller.{Controller}
 use Rattle.nodes.specs.declared.controller.JobRef.{JobRef}
 use Rattle.nodes.specs.declared.controller.Phase.{Phase}
 use Rattle.nodes.specs.declared.node.Node.{Node}
-use Rattle.std.specs.declared.cmp.Ordering.TheVariants.{Less, Equal, Greater}
+use Rattle.std.specs.Ordering.{is_eq}
 use Rattle.nodes.specs.declared.controller.Answer.TheVariants.{Yes, No}
 use Rattle.nodes.specs.declared.controller.Edit.TheVariants.{AddWait, RemoveWait}
 use Rattle.nodes.specs.declared.controller.Goal.{Goal}
@@ -65,11 +65,6 @@ on_second a u (Some v) = on_wait a u v
 abbrev pub unremoved : ℕ → Kind → Option JobRef
 unremoved i k = cond (is_removed k) None (job_ref i k)
 
-abbrev pub is_same : Ordering → Bool
-is_same Less = false
-is_same Equal = true
-is_same Greater = false
-
 abbrev pub is_committed : Kind → Bool
 is_committed Vacant = false
 is_committed Sentinel = false
@@ -94,11 +89,11 @@ module _ {K : Type 0} where
   module _ (order : K → K → Ordering) where
     abbrev pub is_key : List (Node K) → Option ℕ → K → Option Bool
     is_key ns None w = Some false
-    is_key ns (Some n) w = node_at ns n >>= λ y. Some (is_same (order y.key w))
+    is_key ns (Some n) w = node_at ns n >>= λ y. Some (is_eq (order y.key w))
 
     abbrev pub found : List (Node K) → Option ℕ → K → Option (Option JobRef)
     found ns None w = Some None
-    found ns (Some n) w = node_at ns n >>= λ y. Some (cond (is_same (order y.key w)) (unremoved n y.kind) None)
+    found ns (Some n) w = node_at ns n >>= λ y. Some (cond (is_eq (order y.key w)) (unremoved n y.kind) None)
 
     -- what the arriving step finds at the second node of its pair
     abbrev pub arrived : List (Node K) → Controller K → Goal → Option ℕ → Option Phase

@@ -6,11 +6,11 @@
 --     own n w ms           the marks of controller w
 --     lowest_frontier ms   the lowest number that is marked as the frontier
 --     marked n w k ms      the marks after the marking k of controller w
-use Rattle.std.specs.Prelude.{ℕ, suc, ◌+◌, ◌*◌, true, false, List, [], ◌∷◌, ◌++◌, take, drop, replicate, Some, None, Option, ◌==◌, nat_lt, slice_set}
-use Rattle.std.specs.List.{slice_get}
+use Rattle.std.specs.Prelude.{ℕ, ◌+◌, ◌*◌, List, ◌++◌, take, drop, replicate, Some, Option, ◌==◌, nat_lt, slice_set}
+use Rattle.std.specs.List.{slice_get, position}
 use Rattle.nodes.specs.declared.controller.Phase.{Phase}
 use Rattle.nodes.specs.declared.node.Node.{Node}
-use Rattle.nodes.specs.Access.{◌>>=◌, when}
+use Rattle.nodes.specs.Access.{when}
 use Rattle.nodes.specs.Effects.{lock, unlock, link_job, link_wait, mark_removed, commit, unlink, retire}
 use Rattle.rules.specs.declared.decision.Decision.{Decision}
 use Rattle.rules.specs.declared.decision.Decision.TheVariants.{Take}
@@ -46,8 +46,7 @@ abbrev pub own : ℕ → ℕ → List ℕ → List ℕ
 own n w ms = take n (drop (w * n) ms)
 
 abbrev pub lowest_frontier : List ℕ → Option ℕ
-lowest_frontier [] = None
-lowest_frontier (m ∷ ms) = elim (m == mark_byte Frontier) [ true ↦ Some 0 | false ↦ lowest_frontier ms >>= λ i. Some (suc i) ]
+lowest_frontier ms = position (λ m. m == mark_byte Frontier) ms
 
 abbrev pub unvisited : ℕ → ℕ → List ℕ → List ℕ
 unvisited n w ms = take (w * n) ms ++ (replicate n (mark_byte Unvisited) ++ drop (w * n + n) ms)

@@ -7,7 +7,8 @@ ghost use Rattle.rules.specs.Worked.{WorkedStates};
 
 pub mod decision;
 
-// How many facts are worked out. That they hold of the rules is what the contract says.
+// How many facts are worked out. That they hold of the rules is what the contract says; with all rules
+// opened, they compute.
 #[tactic(auto, unfolding(crate::specs::Machine::machine))]
 pub fn worked_states() -> usize
     ensures number { result ≡ 28 }

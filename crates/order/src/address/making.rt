@@ -10,8 +10,8 @@ use crate::row::Row;
 pub struct NoPlace;
 
 impl NoPlace {
-    // The number by which the refusal is told. A method, and no `From`: it is said of the refusal, and
-    // is not the refusal as another type.
+    // The number by which the refusal is told. A method, and no `From`: `refusal.number()`
+    // says which number it is, `u8::from(refusal)` would not.
     pub fn number(self) -> u8
         ensures { result ≡ refusal_number self }
     {
