@@ -36,9 +36,10 @@ use Rattle.law.specs.Ledger.{Stage, Move, Unchanged, Others, Ledger}
 use Rattle.law.specs.Ledger.{Stage.rest, Stage.seek, Stage.bound, Stage.owed, Stage.done}
 use Rattle.law.specs.Readings.{start_event, moved_event, step_event, collect_event, event_of, graph_of, by_edit, by_then, by_phase, by_operation, stage_of, stage_at, call_at, memory_at, outcome_at, event_at, run_of}
 use Rattle.law.specs.Assembling.{Goes, Moves, HistoryFromMoves}
+use Rattle.theory.proofs.Fields.{nth_set_same, nth_set_other}
 use Rattle.law.proofs.Graphs.{same_refl}
 use Rattle.law.proofs.Ledgers.{linearized}
-use Rattle.law.proofs.Views.{nth_set_same, nth_set_other, Refuses, Starts, start_view, Collects, collect_view, collect_gives, count_keeps, Steps, step_view}
+use Rattle.law.proofs.Views.{Refuses, Starts, start_view, Collects, collect_view, collect_gives, count_keeps, Steps, step_view}
 
 -- ---- stages and answers
 

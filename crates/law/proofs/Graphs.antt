@@ -6,8 +6,8 @@ use Rattle.nodes.specs.declared.controller.Operation.{Operation}
 use Rattle.nodes.specs.declared.controller.Operation.TheVariants.{AddJob, RemoveJob, HasJob, AddWait, RemoveWait, HasWait}
 use Rattle.nodes.specs.declared.controller.Answer.{Answer}
 use Rattle.nodes.specs.declared.controller.Answer.TheVariants.{Yes, No, Circle, Full}
-use Rattle.law.specs.History.{Graph, Same, Leads, Closes, Right, changed, answered, Request, Entry, after}
-use Rattle.law.specs.History.{Leads.last, Leads.more}
+use Rattle.law.specs.History.{Graph, Same, Closes, Right, changed, answered, Request, Entry, after}
+use Rattle.theory.proofs.Ways.{leads_map}
 
 module _ {K : Type 0} where
   pub same_refl : (G : Graph K) → Same G G
@@ -18,10 +18,6 @@ module _ {K : Type 0} where
 
   pub same_trans : (G H I : Graph K) → Same G H → Same H I → Same G I
   same_trans G H I s t = record { job = λ k. trans (s.job k) (t.job k); wait = λ a b. trans (s.wait a b) (t.wait a b) }
-
-  leads_same : (G H : Graph K) → Same G H → (a b : K) → Leads G.wait a b → Leads H.wait a b
-  leads_same G H s a b (last w) = last ((s.wait a b).0 w)
-  leads_same G H s a c (more {b = b} w l) = more ((s.wait a b).0 w) (leads_same G H s b c l)
 
   changed_half : (G H : Graph K) → Same G H → (c : Operation) (u v : K) →
       let t : Request K = record { operation = c; u = u; v = v } in
@@ -63,7 +59,7 @@ module _ {K : Type 0} where
   right_by G H s f HasJob u v Circle x = x
   right_by G H s f HasJob u v Full x = x
   right_by G H s f AddWait u v Yes x =
-      let back : Closes H u v → Closes G u v = ⊎_map (λ e. e) (leads_same H G (same_sym G H s) v u) in
+      let back : Closes H u v → Closes G u v = ⊎_map (λ e. e) (leads_map H.wait G.wait (λ a b. (s.wait a b).1) v u) in
       ((s.job u).0 x.0, (s.job v).0 x.1, ⊎_map (s.wait u v).0 (λ no_way l. no_way (back l)) x.2)
   right_by G H s f AddWait u v No x = ⊎_map (λ y j. y ((s.job u).1 j)) (λ y j. y ((s.job v).1 j)) x
   right_by G H s f AddWait u v Circle x = ((s.job u).0 x.0, (s.job v).0 x.1, λ w. x.2 ((s.wait u v).1 w))

@@ -6,8 +6,8 @@ use Rattle.std.proofs.lemmas.Bool.{eq-eqb, ne_eqb, cases_eq}
 use Rattle.nodes.specs.declared.controller.JobRef.{JobRef}
 use Rattle.nodes.specs.declared.controller.Answer.{Answer}
 use Rattle.nodes.specs.declared.controller.Answer.TheVariants.{Circle}
-use Rattle.law.specs.History.{Same, Leads, Request, Run, Op, Event, latest, Began, Steps, Ends, HandsOver, Over, Changed, Seen, Behind, Linearizes}
-use Rattle.law.specs.History.{Leads.last, Leads.more}
+use Rattle.law.specs.History.{Same, Request, Run, Op, Event, latest, Began, Steps, Ends, HandsOver, Over, Changed, Seen, Behind, Linearizes}
+use Rattle.theory.proofs.Ways.{leads_map}
 use Rattle.law.specs.History.{Event.started, Event.stepped, Event.finished, Event.collected, Event.other}
 use Rattle.law.specs.Core.{Due, Changes, Call}
 use Rattle.law.specs.Ledger.{Stage, since, Unchanged, Went, Others, Move, Ledger}
@@ -32,14 +32,10 @@ module _ {K : Type 0} (r : Run K) where
   behind_more : (q : Request K) (c s n : ℕ) → Behind r q c s n → Behind r q c s (suc n)
   behind_more q c s n l =
       let le : l.call ≤ n = l.to in
-      record { u = l.u; v = l.v; call = l.call; from = l.from; to = omega arith; found = l.found; key_u = l.key_u; key_v = l.key_v; row = go l.v l.u l.row }
+      record { u = l.u; v = l.v; call = l.call; from = l.from; to = omega arith; found = l.found; key_u = l.key_u; key_v = l.key_v; row = leads_map (Seen r s n) (Seen r s (suc n)) seen l.v l.u l.row }
     where
       seen : (a b : JobRef) → Seen r s n a b → Seen r s (suc n) a b
       seen a b w = let le : w.0 ≤ n = w.2 in (w.0, w.1, omega arith, w.3)
-
-      go : (a b : JobRef) → Leads (Seen r s n) a b → Leads (Seen r s (suc n)) a b
-      go a b (last w) = last (seen a b w)
-      go a c (more {b = b} w l) = more (seen a b w) (go b c l)
 
   not_over : (n : ℕ) (o : Op K) → (Over r n o → ⊥) → (Ends r o (suc n) → ⊥) → Over r (suc n) o → ⊥
   not_over n o nay f w = elim (le-suc_iff.0 w.1) [ inl le ↦ nay (w.0, le, w.2) | inr e ↦ f (rw e at w.2) ]

@@ -7,7 +7,8 @@ use Rattle.rules.specs.Graph.{key_at}
 use Rattle.rules.specs.Machine.{machine}
 use Rattle.rules.specs.Worked.{fresh8}
 use Rattle.law.specs.History.{Same, empty, Entry, latest, replayed, Consistent, Behind}
-use Rattle.law.specs.History.{Event.started, Event.finished, Leads.last}
+use Rattle.law.specs.History.{Event.started, Event.finished}
+use Rattle.theory.specs.Ways.{Leads.last}
 use Rattle.law.specs.Readings.{JobIn, graph_of, memory_at}
 use Rattle.law.specs.Schedule.{two_adding, schedule_run, explained, add5, add7, wait57, wait75, EndsAt, ScheduleExplained}
 use Rattle.law.proofs.Graphs.{same_refl}

@@ -1,8 +1,6 @@
 -- What a call can have done: refused, with the memory as it was, or taken.
-use Rattle.std.proofs.Common.{◌≡◌, ℕ, Bool, true, false, eqb, ◌⊎◌, List, set, Some, None, Ok, Err, Option, refl, ap, ◌∙◌, inl, inr, arith}
+use Rattle.std.proofs.Common.{◌≡◌, ℕ, Bool, true, false, eqb, ◌⊎◌, List, Some, None, Ok, Err, Option, refl, ap, ◌∙◌, inl, inr}
 use Rattle.std.specs.List.{slice_get}
-use Rattle.std.proofs.lemmas.Grind.{common_steps}
-use Rattle.std.proofs.lemmas.Option.{gets}
 use Rattle.std.specs.declared.cmp.Ordering.{Ordering}
 use Rattle.nodes.specs.declared.call.StepOutcome.{StepOutcome}
 use Rattle.nodes.specs.declared.call.StepOutcome.TheVariants.{Waiting}
@@ -20,17 +18,10 @@ use Rattle.nodes.specs.Reuse.{is_running}
 use Rattle.rules.specs.declared.decision.Decision.{Decision}
 use Rattle.rules.specs.declared.decision.Decision.TheVariants.{Blocked, Take}
 use Rattle.rules.specs.declared.decision.Marking.{Marking}
+use Rattle.theory.proofs.Fields.{nth_set_same, nth_set_other}
 use Rattle.rules.specs.Calls.{ResultOf, answer_of, is_idle, by_controller, by_size, for_controller, with_phase, with_controller, begin, by_ticket, by_operation, by_idle, started, by_nodes, by_decision, by_running, stepped, by_answer, collected, by_count, count_by_size, count_all, counted}
 use Rattle.rules.specs.Decide.{decide}
 use Rattle.rules.specs.Write.{applied}
-
--- ---- elements of a list after a write
-
-pub nth_set_same : {A : Type 0} (l : List A) (i : ℕ) (x y : A) → slice_get l i ≡ Some y → slice_get (set l i x) i ≡ Some x
-nth_set_same l i x y h = grind (arith, common_steps, gets)
-
-pub nth_set_other : {A : Type 0} (l : List A) (i j : ℕ) (x : A) → (j ≡ i → ⊥) → slice_get (set l i x) j ≡ slice_get l j
-nth_set_other l i j x h = grind (arith, common_steps, gets)
 
 module _ {K : Type 0} (m : Memory K) where
   -- a call was refused, and the memory is as it was

@@ -1,6 +1,6 @@
 -- The sequential history of a run: what it is for a list of entries to explain what the calls did. Over bare functions of
 -- the number of a call: calls have the numbers 1, 2, 3, .., and 0 is set-up. Assumes nothing.
---     Graph, Same, Leads       jobs and waits by their keys; graphs with the same ones; one wait or more from a to b
+--     Graph, Same              jobs and waits by their keys; graphs with the same ones
 --     Request                  what an operation is asked to do: the operation and its two keys
 --     Right G f q a            the answer a to the request q is right in the graph G, with f nodes free
 --     changed, answered        the graph after yes; after an answer
@@ -24,6 +24,7 @@ use Rattle.nodes.specs.declared.controller.Operation.TheVariants.{AddJob, Remove
 use Rattle.nodes.specs.declared.controller.JobRef.{JobRef}
 use Rattle.nodes.specs.declared.controller.Answer.{Answer}
 use Rattle.nodes.specs.declared.controller.Answer.TheVariants.{Yes, No, Circle, Full}
+use Rattle.theory.specs.Ways.{Leads}
 
 -- ---- jobs and waits, known by their keys
 
@@ -37,11 +38,6 @@ pub record Same {K : Type 0} (G H : Graph K) : Type 0 where
 
 abbrev pub empty : {K : Type 0} → Graph K
 empty = record { job = λ k. ⊥; wait = λ a b. ⊥ }
-
--- one wait or more lead from a to b
-pub data Leads {K : Type 0} (wait : K → K → Type 0) : K → K → Type 0 where
-  last : {a b : K} → wait a b → Leads wait a b
-  more : {a b c : K} → wait a b → Leads wait b c → Leads wait a c
 
 -- ---- the table: which answer is right, and what yes changes
 

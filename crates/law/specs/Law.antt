@@ -39,9 +39,11 @@ use Rattle.nodes.specs.Reuse.{is_running}
 use Rattle.rules.specs.Calls as calls
 use Rattle.rules.specs.Calls.{is_idle}
 use Rattle.rules.specs.Graph.{chain_behind, waits_in, free_nodes}
-use Rattle.law.specs.History.{Graph, Leads, Request, Closes, Event, Run, Op, Entry, latest, Ends, Running, History, Behind}
+use Rattle.theory.specs.Lists.{In}
+use Rattle.theory.specs.Ways.{Acyclic}
+use Rattle.law.specs.History.{Graph, Request, Closes, Event, Run, Op, Entry, latest, Ends, Running, History, Behind}
 use Rattle.law.specs.History.{Event.started, Event.stepped, Event.finished, Event.collected, Event.other}
-use Rattle.law.specs.Readings.{In, graph_of, call_at, memory_at, outcome_at, run_of}
+use Rattle.law.specs.Readings.{graph_of, call_at, memory_at, outcome_at, run_of}
 
 abbrev pub chain_kind : ℕ → Chain
 chain_kind zero = Jobs
@@ -73,7 +75,7 @@ module _ {K : Type 0} where
   nothing_runs m = (w : ℕ) → runs_at m w → ⊥
 
   abbrev pub NoCircle : List (Node K) → Type 0
-  NoCircle ns = (j : JobRef) → Leads (λ a b. In (a, b) (waits_in Committed ns)) j j → ⊥
+  NoCircle ns = Acyclic (λ (a : JobRef) b. In (a, b) (waits_in Committed ns))
 
   -- node 0 is a sentinel in use
   abbrev pub MainSentinel : List (Node K) → Type 0

@@ -38,14 +38,11 @@ use Rattle.nodes.specs.Operations.{operation_of}
 use Rattle.rules.specs.Calls as calls
 use Rattle.rules.specs.Graph.{graph_jobs, waits_in, key_at, free_nodes}
 use Rattle.rules.specs.Runs.{called}
+use Rattle.theory.specs.Lists.{In}
 use Rattle.law.specs.History.{Graph, Request, Run, Event}
 use Rattle.law.specs.History.{Event.started, Event.stepped, Event.finished, Event.collected, Event.other}
 use Rattle.law.specs.Ledger.{Stage}
 use Rattle.law.specs.Ledger.{Stage.rest, Stage.seek, Stage.bound, Stage.owed, Stage.done}
-
-abbrev pub In : {A : Type 0} → A → List A → Type 0
-In x [] = ⊥
-In x (y ∷ l) = (x ≡ y) ⊎ In x l
 
 -- ---- what a call did
 
