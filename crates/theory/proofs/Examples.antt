@@ -45,6 +45,7 @@ examples = record {
   field_inside = refl;
   field_past_the_end = refl;
   two_written = refl;
+  written_twice = refl;
   chain_before = (refl, (refl, refl));
   is_linked = record { at = refl; new = refl; else = linked_else };
   chain_between = (refl, (refl, (refl, refl)));

@@ -1,6 +1,6 @@
 -- Lists as memory: one field of a list's elements, and its value after a write and after any list of writes: at the written places, where
 -- writes leave it as it was, and elsewhere.
-use Rattle.std.proofs.Common.{◌≡◌, ℕ, ◌<◌, ◌≤◌, cond, eqb, List, [], ◌∷◌, length, set, Some, sym, refl, ap, ◌∙◌, subst, inl, inr, arith, length-set}
+use Rattle.std.proofs.Common.{◌≡◌, ℕ, ◌<◌, ◌≤◌, cond, eqb, List, [], ◌∷◌, ◌++◌, length, set, Some, sym, refl, ap, ◌∙◌, subst, inl, inr, arith, length-set}
 use Rattle.std.specs.List.{slice_get, AllByRecursion}
 use Rattle.std.proofs.lemmas.List.{set_past}
 use Rattle.std.proofs.lemmas.Option.{slice_get_cases, slice_get_past, gets}
@@ -22,6 +22,11 @@ module _ {A : Type 0} where
   -- a number below the length has an element
   pub nth_found : (l : List A) (i : ℕ) → i < length l → (x : A) × (slice_get l i ≡ Some x)
   nth_found l i lt = elim (slice_get_cases l i).1 [ inl r ↦ (r.0, r.2) | inr r ↦ absurd (omega (arith, r.0)) ]
+
+  -- writes keep the length
+  pub length_writes : (l : List A) (ws : List (ℕ × A)) → length (writes l ws) ≡ length l
+  length_writes l [] = refl
+  length_writes l (w ∷ ws) = length_writes (set l w.0 w.1) ws ∙ length-set l w.0 w.1
 
   -- ---- a field
 
@@ -78,14 +83,21 @@ module _ {A : Type 0} where
         away : (w : ℕ × A) → In w ws → j ≡ w.0 → In j (places ws)
         away w m e = rw e (in_map (λ w. w.0) w ws m)
 
-    first_written : (l : List A) (v : ℕ × A) (ws : List (ℕ × A)) → Distinct (places (v ∷ ws)) → v.0 < length l → field f d (writes l (v ∷ ws)) v.0 ≡ f v.1
-    first_written l v ws distinct lt =
-        field_writes_else (set l v.0 v.1) ws v.0 (λ m. all_in (λ i. v.0 ≡ i → ⊥) v.0 (places ws) distinct.0 m refl) ∙ field_set_same l v.0 v.1 lt
+    -- past the end, whatever is written
+    pub field_writes_past : (l : List A) (ws : List (ℕ × A)) (i : ℕ) → length l ≤ i → field f d (writes l ws) i ≡ d
+    field_writes_past l ws i le = field_past (writes l ws) i (let n = length_writes l ws in omega arith)
+
+    -- of the writes to a place the last one counts
+    pub field_writes_last : (l : List A) (before : List (ℕ × A)) (w : ℕ × A) (after : List (ℕ × A)) → (In w.0 (places after) → ⊥) → w.0 < length l →
+        field f d (writes l (before ++ w ∷ after)) w.0 ≡ f w.1
+    field_writes_last l [] w after out lt = field_writes_else (set l w.0 w.1) after w.0 out ∙ field_set_same l w.0 w.1 lt
+    field_writes_last l (v ∷ vs) w after out lt = field_writes_last (set l v.0 v.1) vs w after out (let n = length-set l v.0 v.1 in omega arith)
 
     -- writes to different places: the field is what was written at each of them
     pub field_writes_at : (l : List A) (ws : List (ℕ × A)) → Distinct (places ws) → (w : ℕ × A) → In w ws → w.0 < length l → field f d (writes l ws) w.0 ≡ f w.1
     field_writes_at l [] distinct w m lt = absurd m
     field_writes_at l (v ∷ ws) distinct w (inl e) lt =
-        subst (λ (u : ℕ × A). u.0 < length l → field f d (writes l (v ∷ ws)) u.0 ≡ f u.1) (sym e) (first_written l v ws distinct) lt
+        subst (λ (u : ℕ × A). u.0 < length l → field f d (writes l (v ∷ ws)) u.0 ≡ f u.1) (sym e)
+        (field_writes_last l [] v ws (λ m. all_in (λ i. v.0 ≡ i → ⊥) v.0 (places ws) distinct.0 m refl)) lt
     field_writes_at l (v ∷ ws) distinct w (inr m) lt =
         field_writes_at (set l v.0 v.1) ws distinct.1 w m (let n = length-set l v.0 v.1 in omega arith)

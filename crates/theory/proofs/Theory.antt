@@ -6,11 +6,11 @@ use Rattle.std.specs.declared.cmp.Ordering.{Ordering}
 use Rattle.order.specs.Orders.{OrderLaws}
 use Rattle.theory.specs.Keys.{KeyBefore}
 use Rattle.theory.specs.Theory.{Passes, ChainFacts, ReachFacts, WayFacts, CountFacts, FieldFacts, KeyFacts}
-use Rattle.theory.proofs.Chains.{linked_unique, linked_distinct, linked_elsewhere, linked_link, linked_unlink}
+use Rattle.theory.proofs.Chains.{linked_unique, linked_distinct, linked_elsewhere, linked_link, linked_unlink, closed_link, closed_unlink}
 use Rattle.theory.proofs.Counts.{count_grows, count_one_more, count_gains, count_listed, length_below}
-use Rattle.theory.proofs.Fields.{field_past, field_writes_at, field_writes_else, field_writes_equal}
+use Rattle.theory.proofs.Fields.{field_writes_past, field_writes_last, field_writes_at, field_writes_else, field_writes_equal}
 use Rattle.theory.proofs.Joined.{distinct_joined}
-use Rattle.theory.proofs.Keys.{pairwise_from_next, next_from_pairwise, rises_distinct, rising_keys, arrives_at, greatest}
+use Rattle.theory.proofs.Keys.{pairwise_from_next, next_from_pairwise, rises_distinct, rising_keys, arrives_at, arrives_in, greatest}
 use Rattle.theory.proofs.Reach.{reach_reuse, reach_link, reach_unlink, ahead_chain, reach_in_chain, ahead_move}
 use Rattle.theory.proofs.Ways.{acyclic_with, closed_no_way, acyclic_stamped, first_visit}
 
@@ -20,6 +20,8 @@ chain_facts = record {
   no_number_twice = linked_distinct;
   write_elsewhere_keeps = linked_elsewhere;
   link_splices_in = linked_link;
+  link_stays_closed = closed_link;
+  unlink_stays_closed = closed_unlink;
   unlink_takes_out = linked_unlink;
 }
 
@@ -41,7 +43,7 @@ way_facts = record {
   way_up_to_first_visit = λ edge a b same. first_visit (Passes edge) b same a;
 }
 
-pub count_facts : CountFacts
+pub count_facts : {A : Type 0} → CountFacts A
 count_facts = record {
   grows_with_the_test = count_grows;
   one_more = count_one_more;
@@ -54,8 +56,9 @@ count_facts = record {
 
 pub field_facts : {A B : Type 0} → FieldFacts A B
 field_facts = record {
-  default_past_the_end = field_past;
+  default_past_the_end = field_writes_past;
   written_where_written = field_writes_at;
+  last_write_counts = field_writes_last;
   same_elsewhere = field_writes_else;
   same_where_rewritten = field_writes_equal;
 }
@@ -68,5 +71,6 @@ key_facts order laws = record {
   neighbours_from_rising = λ key next. next_from_pairwise next (KeyBefore order key);
   rising_is_distinct = rises_distinct order laws;
   key_stands_where_a_traversal_arrives = λ key next w s l p q h rises a. arrives_at order laws key next w s l p q h a rises;
+  traversal_arrives_in_the_chain = λ key next w s l p q h a. arrives_in order laws key next w s l p q h a;
   greatest_key = greatest order laws;
 }

@@ -4,11 +4,11 @@
 --     ReachFacts            reachability along chains
 --     Passes test           the edges given by a test
 --     WayFacts A            ways over edges between elements of A
---     CountFacts            how many numbers meet a test; lists of those, and joined lists
+--     CountFacts A          how many numbers meet a test; lists of those, and joined lists of elements of A
 --     FieldFacts A B        a field of type B of a list of elements of A, past its end and after writes
 --     KeyFacts order A      keys along chains; the greatest key of elements of A
 --     Examples              the definitions at work on small lists, and on the chains three, four and three_again
-use Rattle.std.specs.Prelude.{◌≡◌, ℕ, zero, suc, ◌<◌, ◌≤◌, Bool, true, false, ◌⊎◌, ◌↔◌, List, [], ◌∷◌, map, length, Some, None, sum_by, Option, ◌≢◌, nat_lt}
+use Rattle.std.specs.Prelude.{◌≡◌, ℕ, zero, suc, ◌<◌, ◌≤◌, Bool, true, false, ◌⊎◌, ◌↔◌, List, [], ◌∷◌, ◌++◌, map, length, Some, None, sum_by, Option, ◌≢◌, nat_lt}
 use Rattle.std.specs.List.{flat_map, AllByRecursion}
 use Rattle.std.specs.declared.cmp.Ordering.{Ordering}
 use Rattle.order.specs.Lists.{rising}
@@ -30,6 +30,12 @@ pub record ChainFacts : Type 0 where
   pub link_splices_in :
       (kept : ℕ → Bool) (next next' : ℕ → Option ℕ) (p x : ℕ) → Links kept next next' p x →
       (s : ℕ) (l : List ℕ) → AllKept kept (s ∷ l) → In p (s ∷ l) → Linked next (next s) l → Linked next' (next' s) (spliced s p x l)
+  pub link_stays_closed :
+      (kept : ℕ → Bool) (next next' : ℕ → Option ℕ) → Closed kept next → (p x : ℕ) → Links kept next next' p x → kept p ≡ true →
+      (kept' : ℕ → Bool) → kept' x ≡ true → ((i : ℕ) → kept i ≡ true → kept' i ≡ true) →
+      ((i : ℕ) → kept' i ≡ true → (kept i ≡ true) ⊎ ((i ≡ x) ⊎ (next' i ≡ None))) → Closed kept' next'
+  pub unlink_stays_closed :
+      (kept : ℕ → Bool) (next next' : ℕ → Option ℕ) → Closed kept next → (p y : ℕ) → Unlinks kept next next' p y → kept p ≡ true → Closed kept next'
   pub unlink_takes_out :
       (kept : ℕ → Bool) (next next' : ℕ → Option ℕ) (p y : ℕ) → Unlinks kept next next' p y →
       (s : ℕ) (l : List ℕ) → AllKept kept (s ∷ l) → In p (s ∷ l) → Linked next (next s) l → Linked next' (next' s) (without y l)
@@ -63,7 +69,7 @@ pub record WayFacts (A : Type 0) : Type 0 where
   pub way_up_to_first_visit :
       (edge : A → A → Bool) (a b : A) → ((x : A) → (x ≡ b) ⊎ (x ≢ b)) → (a ≢ b) → Leads (Passes edge) a b → Leads (Avoiding (Passes edge) b) a b
 
-pub record CountFacts : Type 0 where
+pub record CountFacts (A : Type 0) : Type 0 where
   pub grows_with_the_test : (f g : ℕ → Bool) (n : ℕ) → ((i : ℕ) → Meets f n i → g i ≡ true) → count f n ≤ count g n
   pub one_more :
       (f g : ℕ → Bool) (k : ℕ) → f k ≡ false → g k ≡ true →
@@ -73,16 +79,19 @@ pub record CountFacts : Type 0 where
       (n : ℕ) → k < n → ((i : ℕ) → Meets f n i → g i ≡ true) → count f n < count g n
   pub list_is_as_long : (f : ℕ → Bool) (n : ℕ) (l : List ℕ) → Distinct l → ((i : ℕ) → In i l ↔ Meets f n i) → length l ≡ count f n
   pub distinct_below : (n : ℕ) (l : List ℕ) → Distinct l → ((i : ℕ) → In i l → i < n) → length l ≤ n
-  pub joined_is_the_sum : (f : ℕ → List ℕ) (l : List ℕ) → length (flat_map f l) ≡ sum_by (λ x. length (f x)) l
+  pub joined_is_the_sum : (f : A → List A) (l : List A) → length (flat_map f l) ≡ sum_by (λ x. length (f x)) l
   pub joined_is_distinct :
-      (f : ℕ → List ℕ) (l : List ℕ) → Distinct l → ((x : ℕ) → In x l → Distinct (f x)) →
-      ((x z y : ℕ) → In x l → In z l → (x ≢ z) → In y (f x) → In y (f z) → ⊥) → Distinct (flat_map f l)
+      (f : A → List A) (l : List A) → Distinct l → ((x : A) → In x l → Distinct (f x)) →
+      ((x z y : A) → In x l → In z l → (x ≢ z) → In y (f x) → In y (f z) → ⊥) → Distinct (flat_map f l)
 
 pub record FieldFacts (A B : Type 0) : Type 0 where
-  pub default_past_the_end : (f : A → B) (d : B) (l : List A) (i : ℕ) → length l ≤ i → field f d l i ≡ d
+  pub default_past_the_end : (f : A → B) (d : B) (l : List A) (ws : List (ℕ × A)) (i : ℕ) → length l ≤ i → field f d (writes l ws) i ≡ d
   pub written_where_written :
       (f : A → B) (d : B) (l : List A) (ws : List (ℕ × A)) → Distinct (places ws) →
       (w : ℕ × A) → In w ws → w.0 < length l → field f d (writes l ws) w.0 ≡ f w.1
+  pub last_write_counts :
+      (f : A → B) (d : B) (l : List A) (before : List (ℕ × A)) (w : ℕ × A) (after : List (ℕ × A)) → (In w.0 (places after) → ⊥) →
+      w.0 < length l → field f d (writes l (before ++ w ∷ after)) w.0 ≡ f w.1
   pub same_elsewhere :
       (f : A → B) (d : B) (l : List A) (ws : List (ℕ × A)) (j : ℕ) → (In j (places ws) → ⊥) → field f d (writes l ws) j ≡ field f d l j
   pub same_where_rewritten :
@@ -99,6 +108,9 @@ pub record KeyFacts {K : Type 0} (order : K → K → Ordering) (A : Type 0) : T
   pub key_stands_where_a_traversal_arrives :
       (key : ℕ → K) (next : ℕ → Option ℕ) (w : K) (s : ℕ) (l : List ℕ) (p : ℕ) (q : Option ℕ) → Linked next (next s) l → Rises order key l →
       Arrives order key next s l w p q → (i : ℕ) → In i l → key i ≡ w → q ≡ Some i
+  pub traversal_arrives_in_the_chain :
+      (key : ℕ → K) (next : ℕ → Option ℕ) (w : K) (s : ℕ) (l : List ℕ) (p : ℕ) (q : Option ℕ) → Linked next (next s) l →
+      Arrives order key next s l w p q → (y : ℕ) → q ≡ Some y → In y l
   pub greatest_key : (key : A → K) (x : A) (l : List A) → (g : A) × Greatest order key g (x ∷ l)
 
 -- ---- the definitions at work
@@ -133,6 +145,7 @@ pub record Examples : Type 0 where
   pub field_inside : field suc 0 (4 ∷ 6 ∷ []) 1 ≡ 7
   pub field_past_the_end : field suc 0 (4 ∷ 6 ∷ []) 2 ≡ 0
   pub two_written : writes {A = ℕ} (4 ∷ 5 ∷ 6 ∷ []) ((0, 7) ∷ (2, 8) ∷ []) ≡ 7 ∷ 5 ∷ 8 ∷ []
+  pub written_twice : writes {A = ℕ} (4 ∷ 5 ∷ []) ((0, 7) ∷ (0, 9) ∷ []) ≡ 9 ∷ 5 ∷ []
   pub chain_before : Linked three (three 0) (1 ∷ 2 ∷ [])
   pub is_linked : Links (λ i. nat_lt i 3) three four 1 3
   pub chain_between : Linked four (four 0) (1 ∷ 3 ∷ 2 ∷ [])

@@ -15,7 +15,7 @@ pub fn theory_holds<K: Key, A, B>(first: K, second: K) -> Ordering
     ensures chains { ChainFacts }
     ensures reachability { ReachFacts }
     ensures ways { WayFacts A }
-    ensures counts { CountFacts }
+    ensures counts { CountFacts A }
     ensures fields { FieldFacts A B }
     ensures keys { KeyFacts K.order A }
     ensures examples { Examples }
@@ -30,7 +30,7 @@ fn facts<K: Key, A, B>(_kind: K)
     ensures chains { ChainFacts }
     ensures reachability { ReachFacts }
     ensures ways { WayFacts A }
-    ensures counts { CountFacts }
+    ensures counts { CountFacts A }
     ensures fields { FieldFacts A B }
     ensures keys { KeyFacts K.order A }
     ensures examples { Examples }
