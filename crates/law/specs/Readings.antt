@@ -6,7 +6,7 @@
 --     graph_of ns            the jobs and waits of the graph, by their keys
 --     KeyedIn ns j k         the job j is in the graph, under the key k
 --     present_in ns a b      a wait from a to b stands or is tentative
---     explores m w u v       controller w explores from the v to the u that it found
+--     Explores m w u v       controller w explores from the v to the u that it found
 --     stage_at m w           how far the operation of controller w is
 --     run_of m cs            the run of a list of calls, as the history reads it
 use Rattle.std.specs.Prelude.{◌≡◌, ℕ, zero, suc, ◌⊎◌, List, [], ◌∷◌, length, Some, None, Ok, Err, Option, Result}

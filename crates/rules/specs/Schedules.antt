@@ -1,7 +1,8 @@
 -- Further facts on the rules, by computation: refusals, and schedules of two controllers that a board with one
 -- rule left out would not pass. Assumes nothing.
 --     steps k w m          k steps of controller w
---     answers m            the answers of controllers 0 and 1, and the count after both
+--     ends w m             controller w runs to its end
+--     starts w c u v m     controller w is given the operation of the code c with the keys u and v
 --     says r               the number of the refusal that a call gave
 use Rattle.std.specs.Prelude.{◌≡◌, ℕ, zero, suc, replicate, Some, None, Ok, Err, Option, Result, slice_set}
 use Rattle.std.specs.Result.{result_ok}
