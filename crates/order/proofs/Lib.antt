@@ -1,2 +1,2 @@
-mod Arranging
+pub mod Arranging
 mod Rising
