@@ -52,6 +52,8 @@ count_facts = record {
   distinct_below = length_below;
   joined_is_the_sum = length-flat_map;
   joined_is_distinct = distinct_joined;
+  joined_by_elements_is_the_sum = length-flat_map;
+  joined_by_elements_is_distinct = distinct_joined;
 }
 
 pub field_facts : {A B : Type 0} → FieldFacts A B

@@ -4,7 +4,7 @@
 --     ReachFacts            reachability along chains
 --     Passes test           the edges given by a test
 --     WayFacts A            ways over edges between elements of A
---     CountFacts A          how many numbers meet a test; lists of those, and joined lists of elements of A
+--     CountFacts A          how many numbers meet a test; lists of those; joined lists of numbers, and of elements of A
 --     FieldFacts A B        a field of type B of a list of elements of A, past its end and after writes
 --     KeyFacts order A      keys along chains; the greatest key of elements of A
 --     Examples              the definitions at work on small lists, and on the chains three, four and three_again
@@ -79,8 +79,12 @@ pub record CountFacts (A : Type 0) : Type 0 where
       (n : ℕ) → k < n → ((i : ℕ) → Meets f n i → g i ≡ true) → count f n < count g n
   pub list_is_as_long : (f : ℕ → Bool) (n : ℕ) (l : List ℕ) → Distinct l → ((i : ℕ) → In i l ↔ Meets f n i) → length l ≡ count f n
   pub distinct_below : (n : ℕ) (l : List ℕ) → Distinct l → ((i : ℕ) → In i l → i < n) → length l ≤ n
-  pub joined_is_the_sum : (f : A → List A) (l : List A) → length (flat_map f l) ≡ sum_by (λ x. length (f x)) l
+  pub joined_is_the_sum : (f : ℕ → List ℕ) (l : List ℕ) → length (flat_map f l) ≡ sum_by (λ x. length (f x)) l
   pub joined_is_distinct :
+      (f : ℕ → List ℕ) (l : List ℕ) → Distinct l → ((x : ℕ) → In x l → Distinct (f x)) →
+      ((x z y : ℕ) → In x l → In z l → (x ≢ z) → In y (f x) → In y (f z) → ⊥) → Distinct (flat_map f l)
+  pub joined_by_elements_is_the_sum : (f : A → List A) (l : List A) → length (flat_map f l) ≡ sum_by (λ x. length (f x)) l
+  pub joined_by_elements_is_distinct :
       (f : A → List A) (l : List A) → Distinct l → ((x : A) → In x l → Distinct (f x)) →
       ((x z y : A) → In x l → In z l → (x ≢ z) → In y (f x) → In y (f z) → ⊥) → Distinct (flat_map f l)
 
