@@ -1,5 +1,7 @@
-// Whole lists of names, by what is told of them.
+// Names as they are written, and whole lists of them, by what is told.
+use names::name::Name;
 use names::report::report;
+use order::row::Row;
 use std::test::Fail;
 
 #[test]
@@ -25,5 +27,17 @@ fn first_line_missing_or_unknown(rt: HostRuntime) -> Result<(), Fail> {
         unknown.as_str(),
         "The first line is unknown: it says numbers or addresses.\n"
     );
+    Ok(())
+}
+
+#[test]
+fn names_are_written(rt: HostRuntime) -> Result<(), Fail> {
+    assert_eq!(rt; 4294967295u32.write(rt.alloc())?.as_str(), "4294967295");
+    let row = Row {
+        aisle: 2,
+        bay: 14,
+        level: 5,
+    };
+    assert_eq!(rt; row.write(rt.alloc())?.as_str(), "2 14 5");
     Ok(())
 }

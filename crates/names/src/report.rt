@@ -5,7 +5,7 @@ ghost use Rattle.names.specs.Reports.{refused_count, fault_line, fault_lines, re
 
 use crate::heading::{Heading, NameKind, find_heading};
 use crate::listing::{LineFault, read_lines};
-use crate::name::{Fault, Name};
+use crate::name::{Fault, PrintedName};
 use crate::text::lines;
 use order::key::Key;
 use order::lists::arrange;
@@ -43,13 +43,13 @@ fn push_faults(out: &mut String, faults: &[LineFault], expected: &str) -> Result
 }
 
 // Adds the line for the key at one place, marked where it is a double.
-fn push_name<K: Name>(
+fn push_name<K: PrintedName>(
     out: &mut String,
     place: usize,
     double: bool,
     key: K,
 ) -> Result<(), AllocError>
-    ensures { OnOk result (string_bytes out.new ≡ string_bytes out.old ++ name_line K.written place double key) }
+    ensures { OnOk result (string_bytes out.new ≡ string_bytes out.old ++ name_line K.Name.written place double key) }
 {
     let mark = if double { " double" } else { "" };
     writeln!(out, "{place}: {key}{mark}")
@@ -57,8 +57,8 @@ fn push_name<K: Name>(
 
 // Adds the lines for the keys, in their order. The key in front is carried along: the first has none,
 // so that a chain over neighbours is no plainer.
-fn push_names<K: Name>(out: &mut String, keys: &[K]) -> Result<(), AllocError>
-    ensures { OnOk result (string_bytes out.new ≡ string_bytes out.old ++ name_lines K.Key.order K.written Nothing 1 keys.now) }
+fn push_names<K: PrintedName>(out: &mut String, keys: &[K]) -> Result<(), AllocError>
+    ensures { OnOk result (string_bytes out.new ≡ string_bytes out.old ++ name_lines K.Key.order K.Name.written Nothing 1 keys.now) }
 {
     let mut previous = None;
     for (i, key) in keys.iter().enumerate() {
@@ -125,8 +125,12 @@ impl fmt::Display for Summary {
 }
 
 // Faults, names and the last line, of a list that was read and arranged.
-fn tell<K: Name>(heap: Global, keys: &[K], faults: &[LineFault]) -> Result<String, AllocError>
-    ensures { IfOk result (λ s. string_bytes s ≡ told K.Key.order K.written K.expected keys.now faults.now) }
+fn tell<K: PrintedName>(
+    heap: Global,
+    keys: &[K],
+    faults: &[LineFault],
+) -> Result<String, AllocError>
+    ensures { IfOk result (λ s. string_bytes s ≡ told K.Key.order K.Name.written K.Name.expected keys.now faults.now) }
 {
     let mut out = String::new(heap);
     push_faults(&mut out, faults, K::expectation())?;
@@ -136,8 +140,12 @@ fn tell<K: Name>(heap: Global, keys: &[K], faults: &[LineFault]) -> Result<Strin
 }
 
 // What is told of the names on the lines from this index on.
-fn report_names<K: Name>(heap: Global, lines: &[&[u8]], from: usize) -> Result<String, AllocError>
-    ensures { IfOk result (λ s. Reported K.Key.order K.named K.written K.expected from (texts lines.now) (string_bytes s)) }
+fn report_names<K: PrintedName>(
+    heap: Global,
+    lines: &[&[u8]],
+    from: usize,
+) -> Result<String, AllocError>
+    ensures { IfOk result (λ s. Reported K.Key.order K.Name.named K.Name.written K.Name.expected from (texts lines.now) (string_bytes s)) }
 {
     let listing = read_lines::<K>(heap, lines, from)?;
     let keys = arrange(heap, &listing.names)?;
@@ -163,6 +171,11 @@ pub fn report(heap: Global, text: &[u8]) -> Result<String, AllocError>
     let lines = lines(heap, text)?;
     match find_heading(heap, &lines)? {
         Ok(heading) => report_under(heap, heading, &lines),
-        Err(fault) => format!(in heap; "{fault}\n"),
+        // With room for either sentence, so that one allocation does.
+        Err(fault) => {
+            let mut told = String::with_capacity(heap, 64)?;
+            writeln!(told, "{fault}")?;
+            Ok(told)
+        }
     }
 }
