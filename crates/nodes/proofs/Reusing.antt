@@ -1,43 +1,14 @@
--- The nodes that may be used again, by a chain over their numbers: the highest of them, counted down, and how many.
-use Rattle.std.proofs.Common.{◌≡◌, ℕ, zero, suc, ◌+◌, ◌-◌, Bool, true, false, cond, List, [], ◌∷◌, length, map, subst, Some, refl, sym, ap, ◌∙◌, arith, add-one, zero-add, add-zero}
+-- How many nodes may be used again, by a chain over the nodes.
+use Rattle.std.proofs.Common.{◌≡◌, ℕ, zero, suc, ◌+◌, Bool, true, false, cond, List, [], ◌∷◌, length, map, subst, Some, refl, sym, ap, ◌∙◌, arith, add-one, zero-add, add-zero}
 use Rattle.std.proofs.Math.ListN.{length-append}
-use Rattle.std.proofs.iter.runs.Sources.{nat_range_steps_back}
 use Rattle.std.proofs.lemmas.List.{map-id}
 use Rattle.std.proofs.lemmas.List.FromFn.{filter_of_map_range_with_len_more}
-use Rattle.std.proofs.lemmas.Iterator.{YieldsList}
-use Rattle.std.proofs.lemmas.Iterator.Consumers.{YieldsList-from_shown}
-use Rattle.std.specs.declared.iter.Rev.{Rev}
-use Rattle.std.specs.declared.ops.Range.{Range}
-use Rattle.std.specs.Iterator.Adapters.{rev_steps, rev_source}
-use Rattle.std.specs.List.{range_with_len, enumerate_from, filter, find, slice_get}
+use Rattle.std.specs.List.{range_with_len, enumerate_from, filter, slice_get}
 use Rattle.nodes.specs.declared.controller.Controller.{Controller}
 use Rattle.nodes.specs.declared.node.Node.{Node}
-use Rattle.nodes.specs.Reuse.{reusable_at, highest, reusable_count}
-
--- n numbers from a on, the highest first
-abbrev pub counted_down : ℕ → ℕ → List ℕ
-counted_down a zero = []
-counted_down a (suc n) = (a + n) ∷ counted_down a n
-
-one_less : (s : Range ℕ) (x : ℕ) (t : Range ℕ) → nat_range_steps_back s (Some x) t → counted_down s.start (s.end - s.start) ≡ x ∷ counted_down t.start (t.end - t.start)
-one_less s x t h =
-    let a : t.start ≡ s.start = h.0 in
-    let n : s.end - s.start ≡ suc (t.end - s.start) = omega (arith, h.1.0, h.1.2) in
-    let e : s.start + (t.end - s.start) ≡ x = omega (arith, h.1.0, h.1.1, h.1.2) in
-    rw (n, a, e)
-
--- a range that is turned round counts down
-pub range_counts_down : {s : Rev (Range ℕ)} (a b n : ℕ) → rev_source s ≡ record { start = a; end = b } → b - a ≡ n → YieldsList (rev_steps nat_range_steps_back) (λ x. x) s (counted_down a n)
-range_counts_down {s} a b n e m =
-    let left : Range ℕ → List ℕ = λ r. counted_down r.start (r.end - r.start) in
-    let road = YieldsList-from_shown (rev_steps nat_range_steps_back) (λ x. x) (λ t. left (rev_source t)) (λ t u h. ap (λ n. length (counted_down (rev_source t).start n)) h.1.0) (λ t x u h. one_less (rev_source t) x (rev_source u) h) s in
-    subst (λ l. YieldsList (rev_steps nat_range_steps_back) (λ x. x) s l) (ap left e ∙ ap (counted_down a) m) road
+use Rattle.nodes.specs.Reuse.{reusable_at, reusable_count}
 
 module _ {K : Type 0} (cs : List (Controller K)) (ns : List (Node K)) where
-  pub highest_found : (b : ℕ) → find (reusable_at cs ns) (counted_down 0 b) ≡ highest cs ns b
-  highest_found zero = refl
-  highest_found (suc b) = rw (zero-add, highest_found b)
-
   one_or_none : (t : Bool) (b : ℕ) → length (cond t (b ∷ []) []) ≡ cond t 1 0
   one_or_none true b = refl
   one_or_none false b = refl
